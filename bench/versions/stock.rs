@@ -1,6 +1,10 @@
 // The versions and the loop of program.rattle in stock Rust: a plain vector of rows, each with who
-// made it and who ended it, and the same test of what a snapshot sees.
+// made it and who ended it, a list of their numbers without some that are dead, and the same test of
+// what a snapshot sees.
 const EACH: u64 = 100;
+
+// Fewer versions are not gone through.
+const FEW: usize = 16;
 
 #[allow(dead_code)]
 enum Value {
@@ -53,6 +57,9 @@ struct World {
     fates: Vec<Fate>,
     current: Vec<Option<u64>>,
     versions: Vec<Version>,
+    list: Vec<u32>,
+    // How many numbers the last vacuum left.
+    left: usize,
     numbers: Numbers,
 }
 
@@ -83,6 +90,28 @@ impl World {
         if stands && (self.fate(made_by) == Fate::Committed || made_by == by) {
             self.versions[number].ended = Some(End { by, cmd });
         }
+    }
+
+    // Whether nobody sees the version any more. No session holds a snapshot.
+    fn is_dead(&self, version: &Version) -> bool {
+        match self.fate(version.by) {
+            Fate::Running => false,
+            Fate::Aborted => true,
+            Fate::Committed => match version.ended {
+                Some(end) => self.fate(end.by) == Fate::Committed,
+                None => false,
+            },
+        }
+    }
+
+    fn vacuum(&mut self) {
+        if self.list.len() < FEW || self.list.len() / 2 <= self.left {
+            return;
+        }
+        let mut list = std::mem::take(&mut self.list);
+        list.retain(|&number| !self.is_dead(&self.versions[number as usize]));
+        self.left = list.len();
+        self.list = list;
     }
 
     fn snapshot(&self, session: usize) -> Option<Snapshot> {
@@ -117,6 +146,8 @@ fn new_world(versions: u64, running: u32) -> World {
         fates: Vec::new(),
         current: vec![None; 65],
         versions: Vec::new(),
+        list: Vec::new(),
+        left: 0,
         numbers: Numbers { state: 1 },
     };
     for number in 0..versions {
@@ -139,6 +170,8 @@ fn new_world(versions: u64, running: u32) -> World {
                 cmd,
                 ended: None,
             });
+            world.list.push(number as u32);
+            world.vacuum();
             if world.numbers.says(8) && number >= 1000 {
                 world.delete(number as usize - 1000, tx, cmd);
             }
@@ -155,9 +188,10 @@ fn scan(world: &World, rounds: u64) -> u64 {
     };
     snap.cmd = 50;
     for _ in 0..rounds {
-        for (number, version) in world.versions.iter().enumerate() {
+        for &number in &world.list {
+            let version = &world.versions[number as usize];
             if world.shows(&snap, version) {
-                sum = sum.wrapping_add(number as u64).wrapping_add(version.row.len() as u64);
+                sum = sum.wrapping_add(u64::from(number)).wrapping_add(version.row.len() as u64);
             }
         }
     }

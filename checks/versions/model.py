@@ -18,10 +18,11 @@ sys.path.insert(0, os.path.dirname(os.path.dirname(os.path.abspath(__file__))))
 from schedules import Numbers, fate, given, held_by, open_of, owners, sees, write, written
 
 SCHEDULES, STEPS, SESSIONS, LEAVES = 2200, 40, 5, 3
-# Schedules whose answers were worked out by hand, each step before a dash and its answer behind it; they come first. The
-# first has the three schedules of docs/snapshots.md, one behind the other: a version has its number as its value. In the
-# second a snapshot that is held does not see what is committed behind it, and sees what its own transaction stored before
-# its number; in the third it is given again, until it is dropped.
+# Schedules with their answers, each step before a dash and its answer behind it; they come first. Those of the first three
+# were worked out by hand. The first has the three schedules of docs/snapshots.md, one behind the other: a version has its
+# number as its value. In the second a snapshot that is held does not see what is committed behind it, and sees what its own
+# transaction stored before its number; in the third it is given again, until it is dropped. In the fourth a row is replaced
+# so often that its leaf leaves out dead versions twice, and what snapshots see that are held stays.
 BY_HAND = [
     """l-0l b2-0b p2000-+ c2-+ b0-1b b1-2b h100-+ s100-00s r0001-+ s001-11s s101-00s c0-+ s101-00s
     b0-3b s000-11s d1-+ c1-+ b1-4b s100-11s e010-+ s001-s s101-11s a0-+
@@ -29,6 +30,13 @@ BY_HAND = [
     e022-+ s002-223344s s003-3344s""",
     "l-0l b0-0b b1-1b p0000-+ h103-+ c0-+ s103-s p1021-+ p1032-+ s103-11s d1-+ s107-001122s f0-0c f1-1r o1-1o",
     "l-0l b0-0b h005-+ o0-0h5o d0-+ o0-0o a0-+ f0-0a",
+    """l-0l b0-0b p0000-+ c0-+ b0-1b r0001-+ r0112-+ c0-+ b0-2b r0203-+ r0314-+ c0-+ b0-3b r0405-+ r0516-+ c0-+ b1-4b
+    h100-+ b0-5b r0607-+ c0-+ b0-6b r0708-+ a0-+ b0-7b r0709-+ r0910-+ c0-+ b0-8b r0:01-+ c0-+ b0-9b r0;02-+ c0-+
+    b0-:b r0<03-+ c0-+ b0-;b r0=04-+ c0-+ b0-<b r0>05-+ c0-+ s100-66s b0-=b s000-?5s c0-+ b2->b h203-+ b0-?b r0?06-+
+    a0-+ b0-@b r0?07-+ c0-+ b0-Ab r0A08-+ r0B19-+ c0-+ b0-Bb r0C00-+ r0D11-+ c0-+ b0-Cb r0E02-+ r0F13-+ c0-+ b0-Db
+    r0G04-+ r0H15-+ c0-+ b0-Eb r0I06-+ r0J17-+ c0-+ s100-66s s204-?5s b0-Fb s000-K7s a0-+ d1-+ c1-+ b0-Gb r0K08-+
+    a0-+ b0-Hb r0K09-+ r0M10-+ c0-+ b0-Ib r0N01-+ r0O12-+ c0-+ b0-Jb r0P03-+ r0Q14-+ c0-+ b0-Kb r0R05-+ r0S16-+ c0-+
+    b0-Lb r0T07-+ c0-+ b1-Mb s100-U7s s203-?5s d2-+ s203-U7s""",
 ]
 # How often each kind of step is drawn: for a session with a transaction, for one that holds a snapshot
 # besides, and for one without a transaction.
@@ -211,7 +219,7 @@ def schedule(numbers, counts):
 
 
 def by_hand(text):
-    """A schedule that was worked out by hand and the line of its answers, which have to be those of the definitions."""
+    """A schedule with its answers and the line of these, which have to be those of the definitions."""
     history, steps, answers, trail = [], [], [], []
     for pair in text.split():
         now, wanted = pair.split("-")

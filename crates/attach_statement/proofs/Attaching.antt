@@ -234,7 +234,7 @@ module _ (laws : AttachLaws) (stores : Stores) (caller : Caller) (p t : TableNo)
         housed = (tt, tt);
         leaves = omega arith;
         catalogue = subst (λ (e : Entry). CatalogueStands catalog (CatalogueChange (EntryAdded e) ∷ h)) (is_next stores.catalog caller p t b by h stands.all.catalog (own_is h s by (mine h stands.all.txs))) (adds h stands.all.txs stands.all.catalog);
-        store = record { sound = rows.sound; births = rows.births; ends = rows.ends; leaves = rows.leaves; room = rows.room };
+        store = record { sound = rows.sound; births = rows.births; ends = rows.ends; leaves = rows.leaves; room = rows.room; lists = rows.lists };
       }
 
   pub added_step : AreRowsClean stores caller.session p.number t.number b → (catalog : KeptCatalogue) → Adds catalog → IsStep (λ (u : Unit {0}). u) (Ok tt) stores (record stores { catalog = catalog }) caller (caller.cmd + 1) (entry_added caller p.number t.number b)

@@ -1,6 +1,6 @@
 ghost use Rattle.std.specs.Prelude.{◌≡◌, ◌<◌, [], ◌∷◌, ◌++◌, All, IfOk, OnOk, map, length};
-ghost use Rattle.history.specs.History.{History, tx_events, seen};
-ghost use Rattle.history.specs.Transactions.{IsPast};
+ghost use Rattle.history.specs.History.{History, seen};
+ghost use Rattle.history.specs.Dead.{MayRead};
 ghost use Rattle.history.specs.Snapshots.{TakenSnapshot};
 ghost use Rattle.tx_table.specs.Stands.{TableStands, SnapshotStands};
 ghost use Rattle.row_store.specs.Stands.{StoreStands, shown_version};
@@ -26,7 +26,7 @@ fn scan_leaf<'s>(
 ) -> Result<Scan<'s>, NoMemory>
     requires { leaf.number < store.now.leaves }
     ensures rows { IfOk result (λ scan. (h : History) (s : TakenSnapshot) → TableStands txs.now h → StoreStands store.now h →
-        IsPast s.past (tx_events h) → SnapshotStands snap.now s → scan ≡ map shown_version (seen h leaf.number s)) }
+        MayRead s h → SnapshotStands snap.now s → scan ≡ map shown_version (seen h leaf.number s)) }
     ensures ids { IfOk result (λ scan. All (λ r. r.0.number < length store.now.stored) scan) }
 {
     let mut trail = Trail::new(alloc)?;
@@ -77,7 +77,7 @@ fn push_targets(
 ) -> Result<(), NoMemory>
     requires { leaf.number < store.now.leaves }
     ensures are { OnOk result ((h : History) (s : TakenSnapshot) → TableStands txs.now h → StoreStands store.now h →
-        IsPast s.past (tx_events h) → SnapshotStands snap.now s → found.new.items ≡ found.old.items ++ targets_in h s (maybe_cond condition.now) leaf) }
+        MayRead s h → SnapshotStands snap.now s → found.new.items ≡ found.old.items ++ targets_in h s (maybe_cond condition.now) leaf) }
     ensures there { OnOk result (All (IsTargetThere store.now) found.old.items → All (IsTargetThere store.now) found.new.items) }
 {
     let scan = scan_leaf(alloc, store, txs, leaf, snap)?;
@@ -96,7 +96,7 @@ pub fn find_targets(
 ) -> Result<Vec<TargetRow>, NoMemory>
     requires { All (λ l. l.number < store.now.leaves) leaves.now }
     ensures are { IfOk result (λ found. (h : History) (s : TakenSnapshot) → TableStands txs.now h → StoreStands store.now h →
-        IsPast s.past (tx_events h) → SnapshotStands snap.now s → found.items ≡ targets h s (maybe_cond condition.now) leaves.now) }
+        MayRead s h → SnapshotStands snap.now s → found.items ≡ targets h s (maybe_cond condition.now) leaves.now) }
     ensures there { IfOk result (λ found. All (IsTargetThere store.now) found.items) }
 {
     let mut found = Vec::new(alloc);

@@ -1,6 +1,7 @@
 pub mod Cleaning
 mod Asked
 mod Fitted
+mod Judged
 mod Leaves
 mod Tellings
 mod RowsOf

@@ -118,7 +118,7 @@ deed_of rows catalog t by n cmd k None st h mine own number first second stands 
   housed = (tt, tt);
   leaves = omega arith;
   catalogue = stands;
-  store = record { sound = store.sound; births = store.births; ends = store.ends; leaves = store.leaves; room = store.room };
+  store = record { sound = store.sound; births = store.births; ends = store.ends; leaves = store.leaves; room = store.room; lists = store.lists };
 }
 deed_of rows catalog t by n cmd k (Some c) st h mine own number first second stands store = record {
   done = (ap (λ (m : ℕ). Some (m, st.cmd)) own ∙ ap (λ (m : ℕ). Some (n, m)) number, (ap (λ (m : ℕ). Some (m, cmd)) mine, tt));
@@ -126,7 +126,7 @@ deed_of rows catalog t by n cmd k (Some c) st h mine own number first second sta
   housed = (tt, (tt, tt));
   leaves = omega arith;
   catalogue = stands;
-  store = record { sound = store.sound; births = store.births; ends = store.ends; leaves = store.leaves; room = store.room };
+  store = record { sound = store.sound; births = store.births; ends = store.ends; leaves = store.leaves; room = store.room; lists = store.lists };
 }
 
 -- ---- what is asked of the call

@@ -135,7 +135,7 @@ module _ (laws : LeaveLaws) (stores : Stores) (caller : Caller) (by : TxId) (p :
         housed = (tt, tt);
         leaves = omega arith;
         catalogue = subst (λ (x : TxId). CatalogueStands catalog (CatalogueChange (EntryEnded e.id.number (record { by = x; cmd = caller.cmd })) ∷ h)) (own_is h s by (mine h stands.all.txs)) (ends h e stands.all.txs stands.all.catalog between);
-        store = record { sound = rows.sound; births = rows.births; ends = rows.ends; leaves = rows.leaves; room = rows.room };
+        store = record { sound = rows.sound; births = rows.births; ends = rows.ends; leaves = rows.leaves; room = rows.room; lists = rows.lists };
       })
 
   -- ---- the part

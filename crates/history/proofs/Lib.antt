@@ -1,7 +1,9 @@
+pub mod Dead
 pub mod Holders
 pub mod Open
 pub mod Settled
 pub mod Stays
 pub mod Stamps
+pub mod Thinned
 pub mod Undone
 pub mod Views

@@ -1,4 +1,5 @@
 pub mod Catalogue
+pub mod Dead
 pub mod History
 pub mod Laws
 pub mod Legal
@@ -9,5 +10,6 @@ pub mod Presence
 pub mod Rows
 pub mod RowsSound
 pub mod Snapshots
+pub mod Thinned
 pub mod Transactions
 pub mod Waits

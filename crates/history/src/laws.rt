@@ -1,4 +1,5 @@
 ghost use Rattle.history.specs.Laws.{CommittedStaysSeen, AlikeSeeAlike, AbortUndoes, SeenBeforeItsEnd, OthersChangeNothing, HeldWasTaken, NoTwoConflict};
+ghost use Rattle.history.specs.Dead.{DeadAreUnseen, DeadStayDead};
 
 /// What was committed stays seen by every later snapshot, until that sees an end of it.
 pub fn committed_stays_seen()
@@ -34,4 +35,11 @@ pub fn held_was_taken()
 /// Two sessions never hold conflicting modes on one table.
 pub fn no_two_conflict()
     ensures { NoTwoConflict }
+{}
+
+/// A row version whose birth was aborted, or whose birth and end are committed, and that no snapshot that
+/// is held sees, is seen by no snapshot that a session may read under, and no event brings it back.
+pub fn dead_are_unseen()
+    ensures unseen { DeadAreUnseen }
+    ensures stay { DeadStayDead }
 {}

@@ -19,8 +19,8 @@ mod wait;
 
 pub use catalogue::{Check, Column, Columns, Entry, EntryId, KeptCheck, Stamp, Table, TableShape};
 pub use laws::{
-    abort_undoes, alike_see_alike, committed_stays_seen, held_was_taken, no_two_conflict,
-    others_change_nothing, seen_before_its_end,
+    abort_undoes, alike_see_alike, committed_stays_seen, dead_are_unseen, held_was_taken,
+    no_two_conflict, others_change_nothing, seen_before_its_end,
 };
 pub use transaction::{Fate, TxId};
 pub use version::{End, Ending, Version};

@@ -24,7 +24,8 @@ use Rattle.soundness.specs.Shown.{IsLive, IsSeenBy, IsJudged}
 use Rattle.soundness.proofs.Listed.{first_in, later_in}
 use Rattle.soundness.proofs.OneLeaf.{all_versions}
 use Rattle.soundness.proofs.Sound.{end_counts}
-use Rattle.row_store.specs.Judged.{ends_for, is_live, is_held_seen, sees_if_held, versions_in, all_versions_in, violators}
+use Rattle.history.specs.Dead.{is_held_seen, sees_if_held}
+use Rattle.row_store.specs.Judged.{ends_for, is_live, versions_in, all_versions_in, violators}
 use Rattle.legal_statements.specs.Entries.{IsScanned}
 use Rattle.legal_statements.specs.Laws.{NothingIsFound}
 use Rattle.legal_statements.proofs.Holding.{session_runs}

@@ -18,7 +18,8 @@ use Rattle.row_router.specs.Trees.{leaves}
 use Rattle.soundness.specs.Versions.{IsVersion, IsEnd}
 use Rattle.soundness.specs.Worlds.{same_tx, is_running}
 use Rattle.soundness.specs.Shown.{IsLive, IsSeenBy}
-use Rattle.row_store.specs.Judged.{ends_for, is_live, is_held_seen, versions_in, all_versions_in, violators}
+use Rattle.history.specs.Dead.{is_held_seen}
+use Rattle.row_store.specs.Judged.{ends_for, is_live, versions_in, all_versions_in, violators}
 use Rattle.legal_statements.specs.Laws.{NoneBreaks}
 
 -- ---- what stands in lists

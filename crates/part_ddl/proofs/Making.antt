@@ -227,7 +227,7 @@ table_is_made old new store h name columns level by cmd t shape st number few is
     subst (λ (s : TableShape). CatalogueStands new (CatalogueChange (TableMade (record { id = t; name = name; columns = columns; shape = s; by = by; cmd = cmd })) ∷ g)) is made in
     let cat : CatalogueStands new (table_events h name columns level by cmd ++ h) =
     subst (λ (i : TableNo). CatalogueStands new (CatalogueChange (TableMade (record { id = i; name = name; columns = columns; shape = shape_of h level; by = by; cmd = cmd })) ∷ g)) id shaped in
-    let there : StoreStands store (table_events h name columns level by cmd ++ h) = record { sound = rows.sound; births = rows.births; ends = rows.ends; leaves = rows.leaves; room = rows.room } in
+    let there : StoreStands store (table_events h name columns level by cmd ++ h) = record { sound = rows.sound; births = rows.births; ends = rows.ends; leaves = rows.leaves; room = rows.room; lists = rows.lists } in
     none_stops (count_faults h) (next_table h) t (table_events h name columns level by cmd) new store h none (sym id) cat there
 
 entries_with : (h : History) (name : List ℕ) (columns : List Column) (level : Option OneLevel) (by : TxId) (cmd : ℕ) → length (entries_added (catalogue_events (table_events h name columns level by cmd ++ h))) ≡ length (entries_added (catalogue_events h))
@@ -247,7 +247,7 @@ partition_is_made table kept new store h name columns parent b level by cmd t tx
     let same : next_entry kept parent t b by cmd ≡ new_entry h parent.number b by cmd = ap (λ (k : ℕ). at k t) count ∙ ap (λ (c : TableNo). at n c) (sym there.number) in
     let added_to : CatalogueStands new (CatalogueChange (EntryAdded (next_entry kept parent t b by cmd)) ∷ g) = added g (txs_with table h name columns level by cmd txs) there.catalogue in
     let placed : CatalogueStands new (CatalogueChange (EntryAdded (new_entry h parent.number b by cmd)) ∷ g) = subst (λ (e : Entry). CatalogueStands new (CatalogueChange (EntryAdded e) ∷ g)) same added_to in
-    let rows : StoreStands store (CatalogueChange (EntryAdded (new_entry h parent.number b by cmd)) ∷ g) = record { sound = there.rows.sound; births = there.rows.births; ends = there.rows.ends; leaves = there.rows.leaves; room = there.rows.room } in
+    let rows : StoreStands store (CatalogueChange (EntryAdded (new_entry h parent.number b by cmd)) ∷ g) = record { sound = there.rows.sound; births = there.rows.births; ends = there.rows.ends; leaves = there.rows.leaves; room = there.rows.room; lists = there.rows.lists } in
     let events : List Column → History = λ cs. CatalogueChange (EntryAdded (new_entry h parent.number b by cmd)) ∷ table_events h name cs level by cmd in
     none_stops (count_faults h) (next_table h) t (partition_events h name parent.number b level by cmd) new store h there.faults there.number
     (subst (λ (cs : List Column). CatalogueStands new (events cs ++ h)) is placed)

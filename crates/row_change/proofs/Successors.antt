@@ -118,7 +118,7 @@ keeps_all old new is = subst (λ (r : KeptRows). KeepsVersions old r) (sym is) (
 
 pub replaced_keeps : (old new : KeptRows) (v : Version) (k : ℕ) (e : End) → IsReplacement old new v k e → KeepsVersions old new
 replaced_keeps old new v k e is =
-    let mid = after_birth old v is.0 in
+    let mid = after_birth old v new.listed is.0 in
     keeps_both old mid new (born_keeps old mid v (is.0, refl, is.2)) (end_keeps mid new k e is.1)
 
 -- ---- what stood stands behind a birth

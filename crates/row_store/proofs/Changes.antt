@@ -1,9 +1,10 @@
 -- A store after an event.
-use Rattle.std.proofs.Common.{◌≡◌, ◌≢◌, ℕ, ◌+◌, ◌<◌, ◌==◌, nat_lt, zero, suc, arith, ap, sym, ◌∙◌, refl, subst, List, [], ◌∷◌, ◌++◌, Option, Some, None, is_none, ◌||◌, slice_get, map, true, false, Bool, if◌then◌else◌, inl, inr, length, slice_index_or, slice_set, length-append}
+use Rattle.std.proofs.Common.{◌≡◌, ◌≢◌, ℕ, ◌+◌, ◌<◌, ◌==◌, nat_lt, zero, suc, arith, ap, sym, ◌∙◌, refl, subst, List, [], ◌∷◌, ◌++◌, Option, Some, None, is_none, ◌||◌, slice_get, map, true, false, Bool, if◌then◌else◌, inl, inr, length, slice_index_or, slice_set, length-append, append-nil, filter, All, ◌≤◌}
 use Rattle.std.proofs.lemmas.Grind.{common_steps, elements}
 use Rattle.std.proofs.lemmas.List.{map-append, length-map}
 use Rattle.std.proofs.lemmas.Option.{slice_get_within}
-use Rattle.std.proofs.lemmas.Bool.{cases_Bool, lt-ltb, ltb-true, and_parts}
+use Rattle.std.proofs.lemmas.List.Elements.{filter-append}
+use Rattle.std.proofs.lemmas.Bool.{cases_Bool, cases_lt, lt-ltb, ltb-true, and_parts}
 use Rattle.std.proofs.lemmas.Bool.Decides.{nat_tests}
 use Rattle.pg_values.specs.declared.value.Value.{Value}
 use Rattle.pg_values.specs.declared.ids.LeafId.{LeafId}
@@ -19,6 +20,10 @@ use Rattle.history.specs.Transactions.{TxEvents, fate, was_aborted, is_committed
 use Rattle.history.specs.Rows.{LeafAdded, RowBorn, RowEnded, counted}
 use Rattle.history.specs.History.{History, RowChange, tx_events, versions, next_version, end_of, stands, Outcome, EndedFor, outcome, outcome_in, outcome_by}
 use Rattle.history.specs.RowsSound.{IsEndingKnown, IsEndSound}
+use Rattle.history.specs.Thinned.{Thins}
+use Rattle.history.specs.Dead.{IsDead}
+use Rattle.history.proofs.Dead.{dead_after_end}
+use Rattle.history.proofs.Thinned.{thin_none, thin_weaker, thin_append, thin_map, thin_again, thin_all}
 use Rattle.history.proofs.Open.{open_runs}
 use Rattle.history.proofs.Settled.{end_of-last}
 use Rattle.tx_table.specs.Kept.{KeptTable}
@@ -27,11 +32,14 @@ use Rattle.row_store.specs.declared.stored.Stored.{Stored}
 use Rattle.row_store.specs.declared.newest.Newest.{Newest}
 use Rattle.row_store.specs.declared.newest.Newest.TheVariants.{Stands, EndedBy, Gone, Moved, Replaced}
 use Rattle.row_store.specs.declared.TheConstants.{BYTES_LIMIT}
-use Rattle.row_store.specs.Kept.{KeptRows, IsBirth, IsReplacement, IsEndKept, AreListed, stored_at, blank, version_of, after_birth, after_end}
+use Rattle.row_store.specs.Kept.{KeptRows, IsBirth, IsReplacement, IsEndKept, IsOf, AreListed, stored_at, listed_in, blank, version_of, after_birth, after_end}
 use Rattle.row_store.specs.Limits.{row_bytes, versions_bytes}
-use Rattle.row_store.specs.Stands.{StoreStands, newborn, outcome_kept, stands_kept, counts}
+use Rattle.row_store.specs.Dead.{IsDeadAt}
+use Rattle.row_store.specs.Stands.{StoreStands, born_in, newborn, outcome_kept, stands_kept}
 use Rattle.row_store.specs.Told.{outcome_told, ending_of, IsToldKnown, IsLeafThere}
-use Rattle.row_store.proofs.Listing.{same_versions, length_set, at_before, at_last}
+use Rattle.row_store.proofs.Held.{counts_running_or_committed}
+use Rattle.row_store.proofs.DeadVersions.{dead_at_is}
+use Rattle.row_store.proofs.Listing.{same_versions, length_set, place_set, place_before, place_past, set_anew, at_leaf, at_before, at_last, pushed_of, born_listed, listed_before, listed_ended}
 
 pub count_is : (kept : KeptRows) (h : History) → StoreStands kept h → length kept.stored ≡ next_version h
 count_is kept h st = sym (length-map kept.stored version_of) ∙ ap length st.births
@@ -47,11 +55,105 @@ bytes-behind : (vs : List Version) (v : Version) → versions_bytes (vs ++ v ∷
 bytes-behind [] v = omega arith
 bytes-behind (w ∷ vs) v = omega (arith, bytes-behind vs v)
 
-pub born_stands : (kept : KeptRows) (h : History) (leaf : LeafId) (row : List Value) (by : TxId) (cmd room : ℕ) → leaf.number < kept.leaves → IsRunning (tx_events h) by.number → room + row_bytes row ≡ kept.room → StoreStands kept h → StoreStands (after_birth kept (record { id = record { number = length kept.stored }; leaf = leaf; row = row; by = by; cmd = cmd }) room) (RowChange (RowBorn (newborn h leaf row by cmd)) ∷ h)
-born_stands kept h leaf row by cmd room lt runs enough st =
+-- ---- what a leaf lists
+
+-- a version of a leaf stands behind the others of the leaf
+born_behind : (h : History) (l : ℕ) (v : Version) → (v.leaf.number == l) ≡ true → born_in (RowChange (RowBorn v) ∷ h) l ≡ born_in h l ++ v ∷ []
+born_behind h l v e =
+    let one : filter (λ (w : Version). w.leaf.number == l) (v ∷ []) ≡ v ∷ [] = rw e refl in
+    filter-append (λ (w : Version). w.leaf.number == l) (versions h) (v ∷ []) ∙ ap (λ vs. born_in h l ++ vs) one
+
+born_elsewhere : (h : History) (l : ℕ) (v : Version) → (v.leaf.number == l) ≡ false → born_in (RowChange (RowBorn v) ∷ h) l ≡ born_in h l
+born_elsewhere h l v e =
+    let none : filter (λ (w : Version). w.leaf.number == l) (v ∷ []) ≡ [] = rw e refl in
+    filter-append (λ (w : Version). w.leaf.number == l) (versions h) (v ∷ []) ∙ ap (λ vs. born_in h l ++ vs) none ∙ append-nil (born_in h l)
+
+-- the end of each version that counts, told from what is kept
+pub ends_told : (kept : KeptRows) (h : History) → ((k : ℕ) → k < length kept.stored → (slice_index_or kept.stored k blank).version.id.number ≡ k) → StoreStands kept h → (k : ℕ) → k < length kept.stored → counted (tx_events h) (slice_index_or kept.stored k blank).ended ≡ end_of h (slice_index_or kept.stored k blank).version.id.number
+ends_told kept h numbered st k lt = ap (counted (tx_events h)) (st.ends k) ∙ sym (end_of-last h k st.sound) ∙ ap (end_of h) (sym (numbered k lt))
+
+-- its list, with the new version behind the others, and without some that are dead
+own_list : (table : KeptTable) (h : History) (xs : List Stored) (x : Stored) (v : Version) (l : ℕ) (ids new : List RowId) → x.version ≡ v → x.version.id.number ≡ length xs → (v.leaf.number == l) ≡ true → TableStands table h
+    → ((k : ℕ) → k < length (xs ++ x ∷ []) → counted (tx_events h) (slice_index_or (xs ++ x ∷ []) k blank).ended ≡ end_of h (slice_index_or (xs ++ x ∷ []) k blank).version.id.number)
+    → All (IsOf xs l) ids → Thins (IsDead h) (born_in h l) (map version_of (map (stored_at xs) ids)) → Thins (IsDeadAt table (xs ++ x ∷ [])) (ids ++ x.version.id ∷ []) new
+    → Thins (IsDead (RowChange (RowBorn v) ∷ h)) (born_in (RowChange (RowBorn v) ∷ h) l) (map version_of (map (stored_at (xs ++ x ∷ [])) new))
+own_list table h xs x v l ids new same number here txs ended all before vacuumed =
+    let ys : List Stored = xs ++ x ∷ [] in
+    let Q : Stored → Type 0 = λ y. IsDead h y.version in
+    let listed : List RowId → List Version = λ is. map version_of (map (stored_at ys) is) in
+    let last : stored_at ys x.version.id ≡ x = at_last xs x x.version.id.number number in
+    let behind : listed (ids ++ x.version.id ∷ []) ≡ map version_of (map (stored_at xs) ids) ++ v ∷ [] =
+    ap (map version_of) (map-append (stored_at ys) ids (x.version.id ∷ []))
+    ∙ map-append version_of (map (stored_at ys) ids) (stored_at ys x.version.id ∷ [])
+    ∙ ap (λ vs. vs ++ (stored_at ys x.version.id).version ∷ []) (listed_before xs x l ids all)
+    ∙ ap (λ (w : Version). map version_of (map (stored_at xs) ids) ++ w ∷ []) (ap (λ (y : Stored). y.version) last ∙ same) in
+    let grown : Thins (IsDead h) (born_in h l ++ v ∷ []) (listed (ids ++ x.version.id ∷ [])) =
+    subst (Thins (IsDead h) (born_in h l ++ v ∷ [])) (sym behind) (thin_append (IsDead h) (born_in h l) (map version_of (map (stored_at xs) ids)) (v ∷ []) (v ∷ []) before (thin_none (IsDead h) (v ∷ []))) in
+    let fewer : Thins (IsDead h) (listed (ids ++ x.version.id ∷ [])) (listed new) =
+    thin_map Q (IsDead h) version_of (λ y dead. dead) (map (stored_at ys) (ids ++ x.version.id ∷ [])) (map (stored_at ys) new)
+    (thin_map (IsDeadAt table ys) Q (stored_at ys) (λ i dead. dead_at_is table h ys i txs ended dead) (ids ++ x.version.id ∷ []) new vacuumed) in
+    let both = thin_again (IsDead h) (born_in h l ++ v ∷ []) (listed (ids ++ x.version.id ∷ [])) (listed new) grown fewer in
+    subst (λ vs. Thins (IsDead h) vs (listed new)) (sym (born_behind h l v here)) both
+
+-- the lists of the other leaves
+other_list : (h : History) (xs : List Stored) (x : Stored) (v : Version) (l : ℕ) (ids : List RowId) → (v.leaf.number == l) ≡ false → All (IsOf xs l) ids → Thins (IsDead h) (born_in h l) (map version_of (map (stored_at xs) ids))
+    → Thins (IsDead (RowChange (RowBorn v) ∷ h)) (born_in (RowChange (RowBorn v) ∷ h) l) (map version_of (map (stored_at (xs ++ x ∷ [])) ids))
+other_list h xs x v l ids away all before =
+    subst (λ vs. Thins (IsDead h) vs (map version_of (map (stored_at (xs ++ x ∷ [])) ids))) (sym (born_elsewhere h l v away))
+    (subst (Thins (IsDead h) (born_in h l)) (sym (listed_before xs x l ids all)) before)
+
+-- what a leaf lists after a birth: its numbers with the new one behind the others, without some of dead versions
+pub record IsVacuumed (table : KeptTable) (kept : KeptRows) (x : Stored) (new : List RowId) (listed : List (List RowId)) : Type 0 where
+  pub all : AreListed kept.stored kept.listed
+  pub count : kept.leaves ≡ length kept.listed
+  pub set : listed ≡ slice_set kept.listed x.version.leaf.number new
+  pub thin : Thins (IsDeadAt table (kept.stored ++ x ∷ [])) (slice_index_or kept.listed x.version.leaf.number [] ++ x.version.id ∷ []) new
+
+past_all : (xs : List Stored) (k : ℕ) → length xs ≤ k → slice_index_or xs k blank ≡ blank
+past_all [] k le = refl
+past_all (x ∷ xs) zero le = absurd (omega arith)
+past_all (x ∷ xs) (suc k) le = past_all xs k (omega (arith, le))
+
+-- a new version has no end
+no_end_of : (h : History) (k : ℕ) → (kept : KeptRows) → StoreStands kept h → length kept.stored ≤ k → end_of h k ≡ None
+no_end_of h k kept st high = end_of-last h k st.sound ∙ ap (counted (tx_events h)) (sym (st.ends k) ∙ ap (λ (y : Stored). y.ended) (past_all kept.stored k high))
+
+ends_after : (kept : KeptRows) (h : History) (x : Stored) → ((k : ℕ) → k < length kept.stored → (slice_index_or kept.stored k blank).version.id.number ≡ k) → StoreStands kept h → x.ended ≡ None → x.version.id.number ≡ length kept.stored
+    → (k : ℕ) → k < length (kept.stored ++ x ∷ []) → counted (tx_events h) (slice_index_or (kept.stored ++ x ∷ []) k blank).ended ≡ end_of h (slice_index_or (kept.stored ++ x ∷ []) k blank).version.id.number
+ends_after kept h x numbered st none number k lt = elim (cases_lt k (length kept.stored)) [
+  | inl before ↦ rw (at_before kept.stored x k before) (ends_told kept h numbered st k before)
+  | inr after ↦
+      let last : k ≡ length kept.stored = omega (arith, lt, after, length-append kept.stored (x ∷ [])) in
+      rw (at_last kept.stored x k last) (ap (counted (tx_events h)) none ∙ sym (no_end_of h x.version.id.number kept st (omega (arith, number))))
+]
+
+lists_go : (table : KeptTable) (kept : KeptRows) (h : History) (x : Stored) (v : Version) (new : List RowId) (listed : List (List RowId)) (m : ℕ) → x.version ≡ v → x.ended ≡ None → x.version.id.number ≡ length kept.stored → x.version.leaf.number < length kept.listed → m < kept.leaves → TableStands table h → StoreStands kept h → IsVacuumed table kept x new listed
+    → (b : Bool) → (x.version.leaf.number == m) ≡ b → Thins (IsDead (RowChange (RowBorn v) ∷ h)) (born_in (RowChange (RowBorn v) ∷ h) m) (map version_of (listed_in (kept.stored ++ x ∷ []) listed m))
+lists_go table kept h x v new listed m same none number lt known txs st its true e =
+    let is : x.version.leaf.number ≡ m = grind (arith, nat_tests) in
+    let ys : List Stored = kept.stored ++ x ∷ [] in
+    let here : (v.leaf.number == m) ≡ true = ap (λ (w : Version). w.leaf.number == m) (sym same) ∙ e in
+    let at : slice_index_or listed m [] ≡ new = ap (λ ls. slice_index_or ls m []) its.set ∙ place_set kept.listed x.version.leaf.number m new lt true e in
+    let thin = subst (λ i. Thins (IsDeadAt table ys) (slice_index_or kept.listed i [] ++ x.version.id ∷ []) new) is its.thin in
+    let own = own_list table h kept.stored x v m (slice_index_or kept.listed m []) new same number here txs (ends_after kept h x its.all.numbered st none number) (its.all.lists m (omega (arith, known, its.count))) (st.lists m known) thin in
+    subst (λ ids. Thins (IsDead (RowChange (RowBorn v) ∷ h)) (born_in (RowChange (RowBorn v) ∷ h) m) (map version_of (map (stored_at ys) ids))) (sym at) own
+lists_go table kept h x v new listed m same none number lt known txs st its false e =
+    let ys : List Stored = kept.stored ++ x ∷ [] in
+    let away : (v.leaf.number == m) ≡ false = ap (λ (w : Version). w.leaf.number == m) (sym same) ∙ e in
+    let at : slice_index_or listed m [] ≡ slice_index_or kept.listed m [] = ap (λ ls. slice_index_or ls m []) its.set ∙ place_set kept.listed x.version.leaf.number m new lt false e in
+    let own = other_list h kept.stored x v m (slice_index_or kept.listed m []) away (its.all.lists m (omega (arith, known, its.count))) (st.lists m known) in
+    subst (λ ids. Thins (IsDead (RowChange (RowBorn v) ∷ h)) (born_in (RowChange (RowBorn v) ∷ h) m) (map version_of (map (stored_at ys) ids))) (sym at) own
+
+-- ---- after a birth
+
+pub born_stands : (table : KeptTable) (kept : KeptRows) (h : History) (leaf : LeafId) (row : List Value) (by : TxId) (cmd room : ℕ) (new : List RowId) (listed : List (List RowId)) → leaf.number < kept.leaves → IsRunning (tx_events h) by.number → room + row_bytes row ≡ kept.room → TableStands table h → StoreStands kept h
+    → IsVacuumed table kept (record { version = record { id = record { number = length kept.stored }; leaf = leaf; row = row; by = by; cmd = cmd }; ended = None }) new listed
+    → StoreStands (after_birth kept (record { id = record { number = length kept.stored }; leaf = leaf; row = row; by = by; cmd = cmd }) listed room) (RowChange (RowBorn (newborn h leaf row by cmd)) ∷ h)
+born_stands table kept h leaf row by cmd room new listed lt runs enough txs st its =
     let n = count_is kept h st in
     let v : Version = newborn h leaf row by cmd in
     let w : Version = record { id = record { number = length kept.stored }; leaf = leaf; row = row; by = by; cmd = cmd } in
+    let x : Stored = record { version = w; ended = None } in
     let numbered : ℕ → Version = λ m. record { id = record { number = m }; leaf = leaf; row = row; by = by; cmd = cmd } in
     let same : w ≡ v = ap numbered n in
     let bytes = bytes-behind (versions h) v in
@@ -61,6 +163,7 @@ born_stands kept h leaf row by cmd room lt runs enough st =
       ends = λ k. ended_behind kept.stored _ k refl ∙ st.ends k;
       leaves = st.leaves;
       room = omega (arith, bytes, enough, st.room);
+      lists = λ m known. lists_go table kept h x v new listed m same refl refl (omega (arith, lt, its.count)) known txs st its (leaf.number == m) refl;
     }
 
 same_place : (xs : List Stored) (k j : ℕ) (y : Stored) → k < length xs → k ≡ j → slice_index_or (slice_set xs k y) j blank ≡ y
@@ -84,6 +187,11 @@ ended_stands kept h k e lt sound st = record {
   ends = λ j. ended_at kept.stored k j _ lt (k == j) refl ∙ choose (k == j) (Some e) _ _ (st.ends j);
   leaves = st.leaves;
   room = st.room;
+  lists = λ m known.
+      let g : History = RowChange (RowEnded k e) ∷ h in
+      let ids : List RowId = slice_index_or kept.listed m [] in
+      subst (Thins (IsDead g) (born_in h m)) (sym (listed_ended kept.stored k (record { version = (slice_index_or kept.stored k blank).version; ended = Some e }) ids lt refl))
+      (thin_weaker (IsDead h) (IsDead g) (λ v dead. dead_after_end k e h v sound dead) (born_in h m) (map version_of (map (stored_at kept.stored) ids)) (st.lists m known));
 }
 
 -- who is open runs
@@ -125,14 +233,49 @@ replacing_known old new k v lt leaf number (room, birth, bytes) =
     let same : v.leaf ≡ (slice_index_or (old.stored ++ x ∷ []) k blank).version.leaf = leaf ∙ ap (λ (y : Stored). y.version.leaf) (sym (at_before old.stored x k lt)) in
     subst P (sym birth) (v, got, omega (arith, lt, number), same, refl)
 
-pub leaf_stands : (kept : KeptRows) (h : History) → StoreStands kept h → StoreStands (record { stored = kept.stored; leaves = kept.leaves + 1; room = kept.room }) (RowChange (LeafAdded kept.leaves) ∷ h)
-leaf_stands kept h st = record {
+-- no version is in a leaf that is not there yet
+none_born : (h : History) (l : ℕ) (xs : List Stored) (vs : List Version) → map version_of xs ≡ vs → ((k : ℕ) → k < length xs → (slice_index_or xs k blank).version.leaf.number < l) → filter (λ (v : Version). v.leaf.number == l) vs ≡ []
+none_born h l [] [] e below = refl
+none_born h l [] (v ∷ vs) e below = absurd (cc)
+none_born h l (x ∷ xs) [] e below = absurd (cc)
+none_born h l (x ∷ xs) (v ∷ vs) e below =
+    let first : x.version ≡ v = cc in
+    let others : map version_of xs ≡ vs = cc in
+    let low : x.version.leaf.number < l = below 0 (omega arith) in
+    let away : (x.version.leaf.number == l) ≡ false = grind (arith, nat_tests) in
+    let off : (v.leaf.number == l) ≡ false = ap (λ (w : Version). w.leaf.number == l) (sym first) ∙ away in
+    rw off (none_born h l xs vs others (λ k lt. below (suc k) (omega (arith, lt))))
+
+pub leaf_stands : (kept : KeptRows) (h : History) → kept.leaves ≡ length kept.listed → AreListed kept.stored kept.listed → StoreStands kept h → StoreStands (record { stored = kept.stored; leaves = kept.leaves + 1; listed = kept.listed ++ [] ∷ []; room = kept.room }) (RowChange (LeafAdded kept.leaves) ∷ h)
+leaf_stands kept h count all st = record {
   sound = (st.leaves, st.sound);
   births = st.births;
   ends = st.ends;
   leaves = ap (λ n. n + 1) st.leaves;
   room = st.room;
+  lists = λ m known.
+      let T : List RowId → Type 0 = λ ids. Thins (IsDead h) (born_in h m) (map version_of (map (stored_at kept.stored) ids)) in
+      elim (cases_lt m kept.leaves) [
+        | inl before ↦ subst T (sym (place_before kept.listed m)) (st.lists m before)
+        | inr after ↦
+            let last : m ≡ length kept.listed = omega (arith, known, after, count) in
+            let none : born_in h m ≡ [] = none_born h m kept.stored (versions h) st.births (λ k lt. rw last (all.leaf k lt)) in
+            let nothing : slice_index_or (kept.listed ++ [] ∷ []) m [] ≡ [] = place_before kept.listed m ∙ place_past kept.listed m last in
+            subst T (sym nothing) (subst (λ vs. Thins (IsDead h) vs []) (sym none) tt)
+      ];
 }
+
+-- by what the code wrote
+pub leaf_added : (V : List Stored) (ls : List (List RowId)) (room : ℕ) (value : KeptRows) (h : History) (n m : ℕ) (ms : List (List RowId)) → (record { stored = V; leaves = length ls; listed = ls; room = room }) ≡ value → AreListed V ls → n ≡ length ls → ms ≡ ls ++ [] ∷ [] → m ≡ length ms → StoreStands value h → StoreStands (record { stored = V; leaves = m; listed = ms; room = room }) (RowChange (LeafAdded n) ∷ h)
+leaf_added V ls room value h n m ms view all count lists size st =
+    let S : KeptRows → Type 0 = λ k. StoreStands k h in
+    let kept : KeptRows = record { stored = V; leaves = length ls; listed = ls; room = room } in
+    let made : ℕ → List (List RowId) → KeptRows = λ k xs. record { stored = V; leaves = k; listed = xs; room = room } in
+    let more : m ≡ length ls + 1 = size ∙ ap length lists ∙ length-append ls ([] ∷ []) in
+    let T : KeptRows → ℕ → Type 0 = λ k i. StoreStands k (RowChange (LeafAdded i) ∷ h) in
+    let now : T (made (length ls + 1) (ls ++ [] ∷ [])) (length ls) = leaf_stands kept h refl all (subst S (sym view) st) in
+    let one : T (made (length ls + 1) (ls ++ [] ∷ [])) n = subst (T (made (length ls + 1) (ls ++ [] ∷ []))) (sym count) now in
+    subst (λ k. T k n) (sym (ap (λ i. made i ms) more ∙ ap (made (length ls + 1)) lists)) one
 
 -- what became of a version, by its last end
 outcome_go : (txs : TxEvents) (e : End) (b : Bool) → was_aborted txs e.by.number ≡ b → outcome_by (fate txs e.by.number) e ≡ outcome_in txs (if b then None else Some e)
@@ -148,10 +291,6 @@ outcome_is table kept h k txs st =
     outcome_counted table h (slice_index_or kept.stored k blank).ended txs
     ∙ ap (λ o. outcome_in (tx_events h) (counted (tx_events h) o)) (st.ends k)
     ∙ ap (outcome_in (tx_events h)) (sym (end_of-last h k st.sound))
-
-pub counts_running_or_committed : (b : Bool) → counts (if b then Committed else Running) ≡ true
-counts_running_or_committed true = refl
-counts_running_or_committed false = refl
 
 standing_counted : (table : KeptTable) (h : History) (o : Option End) → TableStands table h → stands_kept table o ≡ is_none (counted (tx_events h) o)
 standing_counted table h None st = refl
@@ -169,8 +308,8 @@ standing_is table kept h k lt txs st =
     ∙ ap (λ (o : Option End). is_none o) (sym (end_of-last h k st.sound))
     ∙ rw known refl
 
-pub new_stands : StoreStands (record { stored = []; leaves = 0; room = BYTES_LIMIT }) []
-new_stands = record { sound = tt; births = refl; ends = λ k. refl; leaves = refl; room = omega arith }
+pub new_stands : StoreStands (record { stored = []; leaves = 0; listed = []; room = BYTES_LIMIT }) []
+new_stands = record { sound = tt; births = refl; ends = λ k. refl; leaves = refl; room = omega arith; lists = λ m known. absurd (omega (arith, known)) }
 
 -- what stands before a birth stands after it
 stands_behind : (h : History) (k : ℕ) (v : Version) → stands h k ≡ true → stands (RowChange (RowBorn v) ∷ h) k ≡ true
@@ -180,18 +319,12 @@ stands_behind h k v st =
     let more : nat_lt k (length (versions h ++ v ∷ [])) ≡ true = lt-ltb k _ (omega (arith, below, length-append (versions h) (v ∷ []))) in
     rw (more, b.1) refl
 
-pub born_added : (table : KeptTable) (old new : KeptRows) (h : History) (leaf : LeafId) (row : List Value) (by : TxId) (cmd : ℕ) → leaf.number < old.leaves → IsOpen table by.number → IsBirth old new (record { id = record { number = length old.stored }; leaf = leaf; row = row; by = by; cmd = cmd }) → TableStands table h → StoreStands old h → StoreStands new (RowChange (RowBorn (newborn h leaf row by cmd)) ∷ h)
-born_added table old new h leaf row by cmd lt open_by (room, birth, bytes) txs st =
-    let S : KeptRows → Type 0 = λ x. StoreStands x (RowChange (RowBorn (newborn h leaf row by cmd)) ∷ h) in
-    subst S (sym birth) (born_stands old h leaf row by cmd room lt (by_runs table h by.number open_by txs) bytes st)
-
-pub replaced_stands : (table : KeptTable) (kept middle new : KeptRows) (h : History) (k : ℕ) (leaf : LeafId) (row : List Value) (by : TxId) (cmd : ℕ) → IsBirth kept middle (record { id = record { number = length kept.stored }; leaf = leaf; row = row; by = by; cmd = cmd }) → new ≡ after_end middle k (record { by = by; cmd = cmd; how = ReplacedBy (record { number = length kept.stored }) }) → leaf.number < kept.leaves → leaf ≡ (slice_index_or kept.stored k blank).version.leaf → k < length kept.stored → stands h k ≡ true → IsOpen table by.number → sees_now_by table by.number (slice_index_or kept.stored k blank).version.by.number ≡ true → TableStands table h → StoreStands kept h → StoreStands new (RowChange (RowEnded k (record { by = by; cmd = cmd; how = ReplacedBy (newborn h leaf row by cmd).id })) ∷ RowChange (RowBorn (newborn h leaf row by cmd)) ∷ h)
-replaced_stands table kept middle new h k leaf row by cmd birth ended lt same_leaf known standing open_by seen txs st =
+pub replaced_stands : (table : KeptTable) (kept middle new : KeptRows) (h : History) (k : ℕ) (leaf : LeafId) (row : List Value) (by : TxId) (cmd : ℕ) → IsBirth kept middle (record { id = record { number = length kept.stored }; leaf = leaf; row = row; by = by; cmd = cmd }) → new ≡ after_end middle k (record { by = by; cmd = cmd; how = ReplacedBy (record { number = length kept.stored }) }) → leaf ≡ (slice_index_or kept.stored k blank).version.leaf → k < length kept.stored → stands h k ≡ true → IsOpen table by.number → sees_now_by table by.number (slice_index_or kept.stored k blank).version.by.number ≡ true → TableStands table h → StoreStands kept h → StoreStands middle (RowChange (RowBorn (newborn h leaf row by cmd)) ∷ h) → StoreStands new (RowChange (RowEnded k (record { by = by; cmd = cmd; how = ReplacedBy (newborn h leaf row by cmd).id })) ∷ RowChange (RowBorn (newborn h leaf row by cmd)) ∷ h)
+replaced_stands table kept middle new h k leaf row by cmd birth ended same_leaf known standing open_by seen txs st born =
     let v : Version = newborn h leaf row by cmd in
     let w : Version = record { id = record { number = length kept.stored }; leaf = leaf; row = row; by = by; cmd = cmd } in
     let x : Stored = record { version = w; ended = None } in
     let n = count_is kept h st in
-    let born : StoreStands middle (RowChange (RowBorn v) ∷ h) = born_added table kept middle h leaf row by cmd lt open_by birth txs st in
     let stored : middle.stored ≡ kept.stored ++ x ∷ [] = ap (λ (y : KeptRows). y.stored) birth.1 in
     let more : k < length middle.stored = rw stored (omega (arith, known, length-append kept.stored (x ∷ []))) in
     let how : ℕ → End = λ m. record { by = by; cmd = cmd; how = ReplacedBy (record { number = m }) } in
@@ -213,43 +346,81 @@ at_any [] k x lt e = absurd (omega arith)
 at_any (y ∷ ys) zero x lt e = e
 at_any (y ∷ ys) (suc k) x lt e = at_any ys k x (omega (arith, lt)) e
 
-pub newest_is : (table : KeptTable) (V : List Stored) (n room : ℕ) (value : KeptRows) (k : ℕ) (x : Stored) (h : History) (o : Outcome) → (record { stored = V; leaves = n; room = room }) ≡ value → k < length value.stored → x ≡ slice_index_or V k x → TableStands table h → StoreStands value h → o ≡ outcome_kept table x.ended → o ≡ outcome h k
-newest_is table V n room value k x h o view known at txs st told =
+pub newest_is : (table : KeptTable) (V : List Stored) (n room : ℕ) (ls : List (List RowId)) (value : KeptRows) (k : ℕ) (x : Stored) (h : History) (o : Outcome) → (record { stored = V; leaves = n; listed = ls; room = room }) ≡ value → k < length value.stored → x ≡ slice_index_or V k x → TableStands table h → StoreStands value h → o ≡ outcome_kept table x.ended → o ≡ outcome h k
+newest_is table V n room ls value k x h o view known at txs st told =
     let K : KeptRows → Type 0 = λ y. k < length y.stored in
     let S : KeptRows → Type 0 = λ y. StoreStands y h in
-    let kept : KeptRows = record { stored = V; leaves = n; room = room } in
+    let kept : KeptRows = record { stored = V; leaves = n; listed = ls; room = room } in
     let same = at_any V k x (subst K (sym view) known) at in
     told ∙ ap (λ (y : Stored). outcome_kept table y.ended) same ∙ outcome_is table kept h k txs (subst S (sym view) st)
 
-pub newest_stands : (table : KeptTable) (V : List Stored) (n room : ℕ) (value : KeptRows) (k : ℕ) (x : Stored) (h : History) (b : Bool) → (record { stored = V; leaves = n; room = room }) ≡ value → k < length value.stored → x ≡ slice_index_or V k x → TableStands table h → StoreStands value h → b ≡ stands_kept table x.ended → b ≡ stands h k
-newest_stands table V n room value k x h b view known at txs st told =
+pub newest_stands : (table : KeptTable) (V : List Stored) (n room : ℕ) (ls : List (List RowId)) (value : KeptRows) (k : ℕ) (x : Stored) (h : History) (b : Bool) → (record { stored = V; leaves = n; listed = ls; room = room }) ≡ value → k < length value.stored → x ≡ slice_index_or V k x → TableStands table h → StoreStands value h → b ≡ stands_kept table x.ended → b ≡ stands h k
+newest_stands table V n room ls value k x h b view known at txs st told =
     let K : KeptRows → Type 0 = λ y. k < length y.stored in
     let S : KeptRows → Type 0 = λ y. StoreStands y h in
-    let kept : KeptRows = record { stored = V; leaves = n; room = room } in
+    let kept : KeptRows = record { stored = V; leaves = n; listed = ls; room = room } in
     let lt = subst K (sym view) known in
     let same = at_any V k x lt at in
     told ∙ ap (λ (y : Stored). stands_kept table y.ended) same ∙ standing_is table kept h k lt txs (subst S (sym view) st)
 
--- the store after a birth, by what the code wrote
-pub put_added : (table : KeptTable) (V W : List Stored) (ls ms : List (List RowId)) (room0 room n : ℕ) (value : KeptRows) (h : History) (leaf : LeafId) (row values : List Value) (by : TxId) (cmd : ℕ) → (record { stored = V; leaves = length ls; room = room0 }) ≡ value → n ≡ length V → W ≡ V ++ (record { version = (record { id = record { number = n }; leaf = leaf; row = row; by = by; cmd = cmd }); ended = None }) ∷ [] → ms ≡ slice_set ls leaf.number (slice_index_or ls leaf.number [] ++ (record { number = n }) ∷ []) → leaf.number < value.leaves → IsOpen table by.number → values ≡ row → room + row_bytes values ≡ room0 → TableStands table h → StoreStands value h → StoreStands (record { stored = W; leaves = length ms; room = room }) (RowChange (RowBorn (newborn h leaf row by cmd)) ∷ h)
-put_added table V W ls ms room0 room n value h leaf row values by cmd view count versions lists known open_by same bytes txs st =
+-- the lists after a birth, by what the code wrote: the new number was pushed, and then dead ones were left out
+record IsPut (table : KeptTable) (V W U : List Stored) (ls ms ns : List (List RowId)) (leaf : ℕ) (x : Stored) (one new : List RowId) : Type 0 where
+  versions : W ≡ V ++ x ∷ []
+  pushed : ms ≡ slice_set ls leaf (slice_index_or ls leaf [] ++ x.version.id ∷ [])
+  lent : one ≡ slice_index_or ms leaf one
+  read : U ≡ W
+  thin : Thins (IsDeadAt table U) one new
+  set : ns ≡ slice_set ms leaf new
+
+put_thin : (table : KeptTable) (V W U : List Stored) (ls ms ns : List (List RowId)) (leaf : ℕ) (x : Stored) (one new : List RowId) → leaf < length ls → IsPut table V W U ls ms ns leaf x one new → Thins (IsDeadAt table (V ++ x ∷ [])) (slice_index_or ls leaf [] ++ x.version.id ∷ []) new
+put_thin table V W U ls ms ns leaf x one new lt put =
+    let ids : List RowId = slice_index_or ls leaf [] ++ x.version.id ∷ [] in
+    let size : length ms ≡ length ls = ap length put.pushed ∙ length_set ls leaf ids in
+    let here : (leaf == leaf) ≡ true = grind (arith, common_steps, nat_tests) in
+    let at : one ≡ ids = at_leaf ms leaf one (omega (arith, lt, size)) put.lent ∙ ap (λ xs. slice_index_or xs leaf []) put.pushed ∙ place_set ls leaf leaf ids lt true here in
+    subst (λ is. Thins (IsDeadAt table (V ++ x ∷ [])) is new) at (subst (λ xs. Thins (IsDeadAt table xs) one new) (put.read ∙ put.versions) put.thin)
+
+put_set : (table : KeptTable) (V W U : List Stored) (ls ms ns : List (List RowId)) (leaf : ℕ) (x : Stored) (one new : List RowId) → IsPut table V W U ls ms ns leaf x one new → ns ≡ slice_set ls leaf new
+put_set table V W U ls ms ns leaf x one new put =
+    put.set ∙ ap (λ xs. slice_set xs leaf new) put.pushed ∙ set_anew ls leaf (slice_index_or ls leaf [] ++ x.version.id ∷ []) new
+
+pub put_listed : (table : KeptTable) (V W U : List Stored) (ls ms ns : List (List RowId)) (x : Stored) (one new : List RowId) → AreListed V ls → x.version.leaf.number < length ls → x.version.id.number ≡ length V → x.ended ≡ None
+    → W ≡ V ++ x ∷ [] → ms ≡ slice_set ls x.version.leaf.number (slice_index_or ls x.version.leaf.number [] ++ x.version.id ∷ []) → one ≡ slice_index_or ms x.version.leaf.number one → U ≡ W → Thins (IsDeadAt table U) one new → ns ≡ slice_set ms x.version.leaf.number new
+    → AreListed W ns
+put_listed table V W U ls ms ns x one new all lt number none versions pushed lent read thin set =
+    let l = x.version.leaf.number in
+    let put : IsPut table V W U ls ms ns l x one new = record { versions = versions; pushed = pushed; lent = lent; read = read; thin = thin; set = set } in
+    let ys : List Stored = V ++ x ∷ [] in
+    let ids : List RowId = slice_index_or ls l [] ++ x.version.id ∷ [] in
+    let own = thin_all (IsDeadAt table ys) (IsOf ys l) ids new (put_thin table V W U ls ms ns l x one new lt put) (pushed_of V x (slice_index_or ls l []) number (all.lists l lt)) in
+    subst (λ xs. AreListed xs ns) (sym versions) (subst (AreListed ys) (sym (put_set table V W U ls ms ns l x one new put)) (born_listed V ls x new all lt number none own))
+
+-- and the store
+pub put_added : (table : KeptTable) (V W U : List Stored) (ls ms ns : List (List RowId)) (room0 room n : ℕ) (value : KeptRows) (h : History) (leaf : LeafId) (row values : List Value) (by : TxId) (cmd : ℕ) (one new : List RowId) → (record { stored = V; leaves = length ls; listed = ls; room = room0 }) ≡ value → AreListed V ls → n ≡ length V
+    → W ≡ V ++ (record { version = (record { id = record { number = n }; leaf = leaf; row = row; by = by; cmd = cmd }); ended = None }) ∷ [] → ms ≡ slice_set ls leaf.number (slice_index_or ls leaf.number [] ++ (record { number = n }) ∷ []) → one ≡ slice_index_or ms leaf.number one → U ≡ W → Thins (IsDeadAt table U) one new → ns ≡ slice_set ms leaf.number new
+    → leaf.number < value.leaves → IsOpen table by.number → values ≡ row → room + row_bytes values ≡ room0 → TableStands table h → StoreStands value h → StoreStands (record { stored = W; leaves = length ns; listed = ns; room = room }) (RowChange (RowBorn (newborn h leaf row by cmd)) ∷ h)
+put_added table V W U ls ms ns room0 room n value h leaf row values by cmd one new view all count versions pushed lent read thin set known open_by same bytes txs st =
     let S : KeptRows → Type 0 = λ y. StoreStands y h in
     let K : KeptRows → Type 0 = λ y. leaf.number < y.leaves in
-    let kept : KeptRows = record { stored = V; leaves = length ls; room = room0 } in
-    let made : List Stored → ℕ → KeptRows = λ xs m. record { stored = xs; leaves = m; room = room } in
-    let birth : ℕ → List Stored = λ m. V ++ (record { version = (record { id = record { number = m }; leaf = leaf; row = row; by = by; cmd = cmd }); ended = None }) ∷ [] in
+    let lt : leaf.number < length ls = subst K (sym view) known in
+    let kept : KeptRows = record { stored = V; leaves = length ls; listed = ls; room = room0 } in
+    let x : ℕ → Stored = λ m. record { version = (record { id = record { number = m }; leaf = leaf; row = row; by = by; cmd = cmd }); ended = None } in
+    let put : IsPut table V W U ls ms ns leaf.number (x n) one new = record { versions = versions; pushed = pushed; lent = lent; read = read; thin = thin; set = set } in
+    let set_is = put_set table V W U ls ms ns leaf.number (x n) one new put in
+    let its : IsVacuumed table kept (x n) new ns = record { all = all; count = refl; set = set_is; thin = put_thin table V W U ls ms ns leaf.number (x n) one new lt put } in
+    let made : List Stored → ℕ → KeptRows = λ xs m. record { stored = xs; leaves = m; listed = ns; room = room } in
     let T : KeptRows → Type 0 = λ y. StoreStands y (RowChange (RowBorn (newborn h leaf row by cmd)) ∷ h) in
-    let size : length ms ≡ length ls = ap length lists ∙ length_set ls leaf.number (slice_index_or ls leaf.number [] ++ (record { number = n }) ∷ []) in
+    let size : length ns ≡ length ls = ap length set_is ∙ length_set ls leaf.number new in
     let enough : room + row_bytes row ≡ room0 = ap (λ (r : List Value). room + row_bytes r) (sym same) ∙ bytes in
-    let born : T (made (birth (length V)) (length ls)) = born_stands kept h leaf row by cmd room (subst K (sym view) known) (by_runs table h by.number open_by txs) enough (subst S (sym view) st) in
-    subst T (sym (ap (λ xs. made xs (length ms)) (versions ∙ ap birth count) ∙ ap (made (birth (length V))) size)) born
+    let born : T (made (V ++ x (length V) ∷ []) (length ls)) = born_stands table kept h leaf row by cmd room new ns lt (by_runs table h by.number open_by txs) enough txs (subst S (sym view) st) (subst (λ m. IsVacuumed table kept (x m) new ns) count its) in
+    subst T (sym (ap (λ xs. made xs (length ns)) (versions ∙ ap (λ m. V ++ x m ∷ []) count) ∙ ap (made (V ++ x (length V) ∷ [])) size)) born
 
-pub replaced_added : (table : KeptTable) (kept middle new : KeptRows) (h : History) (k m : ℕ) (leaf at : LeafId) (row : List Value) (by : TxId) (cmd : ℕ) → leaf ≡ at → at ≡ (slice_index_or kept.stored k blank).version.leaf → m ≡ length kept.stored → IsBirth kept middle (record { id = record { number = length kept.stored }; leaf = leaf; row = row; by = by; cmd = cmd }) → new ≡ after_end middle k (record { by = by; cmd = cmd; how = ReplacedBy (record { number = m }) }) → leaf.number < kept.leaves → k < length kept.stored → stands h k ≡ true → IsOpen table by.number → sees_now_by table by.number (slice_index_or kept.stored k blank).version.by.number ≡ true → TableStands table h → StoreStands kept h → StoreStands new (RowChange (RowEnded k (record { by = by; cmd = cmd; how = ReplacedBy (newborn h at row by cmd).id })) ∷ RowChange (RowBorn (newborn h at row by cmd)) ∷ h)
-replaced_added table kept middle new h k m leaf at row by cmd same here count birth ended lt known standing open_by seen txs st =
+pub replaced_added : (table : KeptTable) (kept middle new : KeptRows) (h : History) (k m : ℕ) (leaf at : LeafId) (row : List Value) (by : TxId) (cmd : ℕ) → leaf ≡ at → at ≡ (slice_index_or kept.stored k blank).version.leaf → m ≡ length kept.stored → IsBirth kept middle (record { id = record { number = length kept.stored }; leaf = leaf; row = row; by = by; cmd = cmd }) → new ≡ after_end middle k (record { by = by; cmd = cmd; how = ReplacedBy (record { number = m }) }) → k < length kept.stored → stands h k ≡ true → IsOpen table by.number → sees_now_by table by.number (slice_index_or kept.stored k blank).version.by.number ≡ true → TableStands table h → StoreStands kept h → StoreStands middle (RowChange (RowBorn (newborn h leaf row by cmd)) ∷ h) → StoreStands new (RowChange (RowEnded k (record { by = by; cmd = cmd; how = ReplacedBy (newborn h at row by cmd).id })) ∷ RowChange (RowBorn (newborn h at row by cmd)) ∷ h)
+replaced_added table kept middle new h k m leaf at row by cmd same here count birth ended known standing open_by seen txs st born =
     let how : ℕ → End = λ i. record { by = by; cmd = cmd; how = ReplacedBy (record { number = i }) } in
     let over : new ≡ after_end middle k (how (length kept.stored)) = ended ∙ ap (λ (x : End). after_end middle k x) (ap how count) in
     let T : LeafId → Type 0 = λ l. StoreStands new (RowChange (RowEnded k (record { by = by; cmd = cmd; how = ReplacedBy (newborn h l row by cmd).id })) ∷ RowChange (RowBorn (newborn h l row by cmd)) ∷ h) in
-    subst T same (replaced_stands table kept middle new h k leaf row by cmd birth over lt (same ∙ here) known standing open_by seen txs st)
+    subst T same (replaced_stands table kept middle new h k leaf row by cmd birth over (same ∙ here) known standing open_by seen txs st born)
 
 -- an outcome for good tells the last end
 ended_for_go : (table : KeptTable) (e : End) (t : ℕ) (how : Ending) (f : Fate) → slice_index_or table.fates e.by.number Running ≡ f → EndedFor t how ≡ outcome_by f e → (slice_index_or table.fates e.by.number Running ≡ Committed) × (e.by.number ≡ t) × (e.how ≡ how)
@@ -289,7 +460,7 @@ told_known table kept id o (Replaced tx new) is known =
     let mine : e.0.by ≡ tx = ap who e.3 in
     (n.2, there, ap (λ (v : Version). v.leaf) one ∙ n.3, ap (λ (v : Version). v.by) one ∙ n.4 ∙ mine, ap (λ m. slice_index_or table.fates m Running) (sym e.3) ∙ e.2)
 
-pub newest_known : (table : KeptTable) (V : List Stored) (n room : ℕ) (value : KeptRows) (ls : List (List RowId)) (id : RowId) (x : Stored) (told : Newest) → (record { stored = V; leaves = n; room = room }) ≡ value → n ≡ length ls → AreListed V ls → id.number < length value.stored → x ≡ slice_index_or V id.number x → outcome_told told ≡ outcome_kept table x.ended → IsToldKnown table value id told
+pub newest_known : (table : KeptTable) (V : List Stored) (n room : ℕ) (value : KeptRows) (ls : List (List RowId)) (id : RowId) (x : Stored) (told : Newest) → (record { stored = V; leaves = n; listed = ls; room = room }) ≡ value → n ≡ length ls → AreListed V ls → id.number < length value.stored → x ≡ slice_index_or V id.number x → outcome_told told ≡ outcome_kept table x.ended → IsToldKnown table value id told
 newest_known table V n room value ls id x told view count all known at is =
     let K : KeptRows → Type 0 = λ y. id.number < length y.stored in
     let lt = subst K (sym view) known in
@@ -297,11 +468,11 @@ newest_known table V n room value ls id x told view count all known at is =
     let P : KeptRows → Type 0 = λ y. IsToldKnown table y id told in
     let E : ℕ → Type 0 = λ m. IsEndKept V m id.number (stored_at V id).version (stored_at V id).ended in
     let kept : E n = subst E (sym count) (all.ends id.number lt) in
-    subst P view (told_known table (record { stored = V; leaves = n; room = room }) id (stored_at V id).ended told (is ∙ ap (λ (y : Stored). outcome_kept table y.ended) same) kept)
+    subst P view (told_known table (record { stored = V; leaves = n; listed = ls; room = room }) id (stored_at V id).ended told (is ∙ ap (λ (y : Stored). outcome_kept table y.ended) same) kept)
 
 -- the end that the code sets is kept
-pub set_known : (V : List Stored) (n room : ℕ) (value : KeptRows) (k : ℕ) (x y : Stored) (e : End) → (record { stored = V; leaves = n; room = room }) ≡ value → y ≡ record { version = x.version; ended = Some e } → x ≡ slice_index_or V k blank → IsEndingKnown (map version_of value.stored) value.leaves k (slice_index_or value.stored k blank).version e.by e.how → IsEndKept V n k y.version y.ended
-set_known V n room value k x y e view set at known =
+pub set_known : (V : List Stored) (n room : ℕ) (ls : List (List RowId)) (value : KeptRows) (k : ℕ) (x y : Stored) (e : End) → (record { stored = V; leaves = n; listed = ls; room = room }) ≡ value → y ≡ record { version = x.version; ended = Some e } → x ≡ slice_index_or V k blank → IsEndingKnown (map version_of value.stored) value.leaves k (slice_index_or value.stored k blank).version e.by e.how → IsEndKept V n k y.version y.ended
+set_known V n room ls value k x y e view set at known =
     let K : KeptRows → Type 0 = λ r. IsEndingKnown (map version_of r.stored) r.leaves k (slice_index_or r.stored k blank).version e.by e.how in
     let P : Stored → Type 0 = λ z. IsEndKept V n k z.version (Some e) in
     let Q : Stored → Type 0 = λ z. IsEndKept V n k z.version z.ended in
@@ -327,4 +498,5 @@ replaced_kept old middle new k m leaf at row by cmd same count (room, birth, byt
     let how : ℕ → End = λ i. record { by = by; cmd = cmd; how = ReplacedBy (record { number = i }) } in
     let v : LeafId → Version = λ l. record { id = record { number = length old.stored }; leaf = l; row = row; by = by; cmd = cmd } in
     let made : KeptRows → KeptRows = λ y. after_end y k (how (length old.stored)) in
-    (room, ended ∙ ap (λ (x : End). after_end middle k x) (ap how count) ∙ ap made (birth ∙ ap (λ (y : Version). after_birth old y room) (ap v same)), bytes)
+    let listed : new.listed ≡ middle.listed = ap (λ (y : KeptRows). y.listed) ended in
+    (room, ended ∙ ap (λ (x : End). after_end middle k x) (ap how count) ∙ ap made (birth ∙ ap (λ (y : Version). after_birth old y middle.listed room) (ap v same) ∙ ap (λ ls. after_birth old (v at) ls room) (sym listed)), bytes)

@@ -1,10 +1,11 @@
 -- What is judged by what is kept is what the history says.
 use Rattle.std.proofs.Common.{◌≡◌, ℕ, ◌+◌, ◌<◌, ◌==◌, ◌&&◌, ◌||◌, not, zero, suc, arith, ap, sym, ◌∙◌, refl, List, [], ◌∷◌, ◌++◌, Option, Some, None, map, filter, true, false, Bool, if◌then◌else◌, inl, inr, length, slice_index_or, subst, take, drop, get_or, find, option_map, nat_lt, ◌≤◌}
 use Rattle.std.specs.Option.{option_or}
-use Rattle.std.specs.List.{list_any, flat_map, Contains}
+use Rattle.std.specs.List.{list_any, flat_map, Contains, All}
 use Rattle.std.proofs.lemmas.Bool.{cases_Bool}
 use Rattle.std.proofs.lemmas.Bool.Decides.{nat_tests}
-use Rattle.std.proofs.lemmas.List.{map-append, length-map, take_more, append-nil, take-append-drop}
+use Rattle.std.proofs.lemmas.List.{map-append, take_more, append-nil, take-append-drop}
+use Rattle.std.proofs.lemmas.List.Elements.{All-head, All-tail, All-weaker}
 use Rattle.std.proofs.lemmas.List.Folds.{find-append, list_any-append}
 use Rattle.std.proofs.lemmas.List.Concat.{flat_map-append}
 use Rattle.pg_values.specs.declared.value.Value.{Value}
@@ -16,21 +17,25 @@ use Rattle.history.specs.declared.transaction.Fate.TheVariants.{Running, Aborted
 use Rattle.history.specs.declared.version.Version.{Version}
 use Rattle.history.specs.declared.version.End.{End}
 use Rattle.history.specs.Transactions.{was_aborted, is_committed, fate, sees_now}
-use Rattle.history.specs.Snapshots.{TakenSnapshot, sees, held_by}
+use Rattle.history.specs.Snapshots.{held_by}
 use Rattle.history.specs.Rows.{counted}
-use Rattle.history.specs.History.{History, tx_events, snapshot_events, versions, end_of, sees_end}
-use Rattle.history.proofs.Settled.{end_of-last}
-use Rattle.tx_table.specs.Kept.{KeptTable, KeptSnapshot}
-use Rattle.tx_table.specs.Stands.{TableStands, HeldStands, sees_now_by}
+use Rattle.history.specs.History.{History, tx_events, snapshot_events, end_of}
+use Rattle.history.specs.Thinned.{Thins}
+use Rattle.history.specs.Dead.{is_held_seen, IsDead}
+use Rattle.history.proofs.Dead.{held_unseen}
+use Rattle.history.proofs.Thinned.{thin_find, thin_any, thin_passed, thin_flat_map}
+use Rattle.tx_table.specs.Kept.{KeptTable}
+use Rattle.tx_table.specs.Stands.{TableStands, IsOpen, sees_now_by}
 use Rattle.row_store.specs.declared.stored.Stored.{Stored}
 use Rattle.row_store.specs.declared.judge.Verdict.{Verdict}
 use Rattle.row_store.specs.declared.judge.Verdict.TheVariants.{Clean, Violator, Seen}
-use Rattle.row_store.specs.Kept.{KeptRows, blank, no_id, version_of, in_leaf, stored_at, AreListed, AreBelow}
+use Rattle.row_store.specs.Kept.{KeptRows, blank, no_id, version_of, stored_at, listed_in, IsOf, AreListed, AreBelow}
 use Rattle.row_store.specs.Stands.{StoreStands, counts}
-use Rattle.row_store.specs.Judged.{ends_for, is_live, sees_if_held, is_held_seen, refusing, seeing, ends_for_by, is_live_by, shows_if_held, is_held_shown, refuses_by, kept_in, all_kept_in, refusing_by, seeing_by, IsVerdict, IsFound}
-use Rattle.row_store.proofs.Changes.{counts_running_or_committed}
-use Rattle.row_store.proofs.Listing.{found}
-use Rattle.row_store.proofs.Shown.{shows_is, mapped, ids_below}
+use Rattle.row_store.specs.Judged.{ends_for, is_live, refusing, seeing, versions_in, all_versions_in, ends_for_by, is_live_by, shows_if_held, is_held_shown, refuses_by, all_listed_in, refusing_by, seeing_by, IsVerdict, IsFound}
+use Rattle.row_store.proofs.Held.{counts_running_or_committed, held_is}
+use Rattle.row_store.proofs.DeadVersions.{dead_refuses}
+use Rattle.row_store.proofs.Changes.{by_runs, ends_told}
+use Rattle.row_store.proofs.Shown.{all_below}
 
 -- what stands past the end
 abbrev pub no_leaf : LeafId
@@ -55,12 +60,6 @@ live_is table h me x st e =
     let ends : ends_for_by table me x.version x.ended ≡ ends_for (tx_events h) me x.version (end_of h x.version.id.number) = ends_is table h me x.version x.ended st ∙ ap (ends_for (tx_events h) me x.version) e in
     ap (λ b. b && not (ends_for_by table me x.version x.ended)) born ∙ ap (λ b. sees_now (tx_events h) me x.version.by.number && not b) ends
 
-held_is : (table : KeptTable) (h : History) (x : Stored) (o : Option KeptSnapshot) (p : Option TakenSnapshot) → TableStands table h → HeldStands o p (tx_events h) → counted (tx_events h) x.ended ≡ end_of h x.version.id.number → shows_if_held table o x ≡ sees_if_held h p x.version
-held_is table h x None None st held e = refl
-held_is table h x None (Some s) st held e = absurd held
-held_is table h x (Some k) None st held e = absurd held
-held_is table h x (Some k) (Some s) st held e = shows_is table k h s x st held.1 held.0 ∙ ap (λ o. sees (tx_events h) s x.version.by.number x.version.cmd && not (sees_end (tx_events h) s o)) e
-
 -- a version that is kept is told of as the history tells of it
 abbrev pub IsTold : KeptTable → History → Stored → Type 0
 IsTold table h x = ((me : ℕ) → is_live_by table me x ≡ is_live h me x.version) × ((r : ℕ) → is_held_shown table r x ≡ is_held_seen h r x.version)
@@ -78,25 +77,35 @@ each_at : (P : Stored → Type 0) (xs : List Stored) → ((k : ℕ) → k < leng
 each_at P [] all = tt
 each_at P (x ∷ xs) all = (all 0 (omega arith), each_at P xs (λ k lt. all (suc k) (omega (arith, lt))))
 
-each_filter : (P : Stored → Type 0) (p : Stored → Bool) (xs : List Stored) → Each P xs → Each P (filter p xs)
-each_filter P p [] all = tt
-each_filter P p (x ∷ xs) all = elim (cases_Bool (p x)) [ inl t ↦ rw t (all.0, each_filter P p xs all.1) | inr f ↦ rw f (each_filter P p xs all.1) ]
-
 each_append : (P : Stored → Type 0) (xs ys : List Stored) → Each P xs → Each P ys → Each P (xs ++ ys)
 each_append P [] ys a b = b
 each_append P (x ∷ xs) ys a b = (a.0, each_append P xs ys a.1 b)
 
-each_kept : (P : Stored → Type 0) (xs : List Stored) (leaves : List LeafId) → Each P xs → Each P (all_kept_in xs leaves)
-each_kept P xs [] all = tt
-each_kept P xs (l ∷ ls) all = each_append P (kept_in xs l) (all_kept_in xs ls) (each_filter P (in_leaf l.number) xs all) (each_kept P xs ls all)
+each_get : (P : Stored → Type 0) (xs : List Stored) (k : ℕ) → k < length xs → Each P xs → P (slice_index_or xs k blank)
+each_get P [] k lt all = absurd (omega arith)
+each_get P (x ∷ xs) zero lt all = all.0
+each_get P (x ∷ xs) (suc k) lt all = each_get P xs k (omega (arith, lt)) all.1
 
-versions_kept : (V : List Stored) (vs : List Version) (leaves : List LeafId) → map version_of V ≡ vs → flat_map (λ leaf. filter (λ v. v.leaf.number == leaf.number) vs) leaves ≡ map version_of (all_kept_in V leaves)
-versions_kept V vs [] e = refl
-versions_kept V vs (l ∷ ls) e =
-    let T : Version → Bool = λ v. v.leaf.number == l.number in
-    let here : filter T vs ≡ map version_of (kept_in V l) = ap (filter T) (sym e) ∙ mapped T V in
-    let rest = versions_kept V vs ls e in
-    ap (λ xs. xs ++ flat_map (λ (leaf : LeafId). filter (λ (v : Version). v.leaf.number == leaf.number) vs) ls) here ∙ ap (λ xs. map version_of (kept_in V l) ++ xs) rest ∙ sym (map-append version_of (kept_in V l) (all_kept_in V ls))
+each_listed : (P : Stored → Type 0) (V : List Stored) (l : ℕ) (ids : List RowId) → Each P V → All (IsOf V l) ids → Each P (map (stored_at V) ids)
+each_listed P V l [] each all = tt
+each_listed P V l (i ∷ ids) each all = (each_get P V i.number (All-head (IsOf V l) i ids all).0 each, each_listed P V l ids each (All-tail (IsOf V l) i ids all))
+
+each_leaf : (P : Stored → Type 0) (V : List Stored) (ls : List (List RowId)) (leaves : List LeafId) → AreListed V ls → All (λ leaf. leaf.number < length ls) leaves → Each P V → Each P (all_listed_in V ls leaves)
+each_leaf P V ls [] all known each = tt
+each_leaf P V ls (l ∷ leaves) all known each =
+    let K : LeafId → Type 0 = λ leaf. leaf.number < length ls in
+    each_append P (listed_in V ls l.number) (all_listed_in V ls leaves) (each_listed P V l.number (slice_index_or ls l.number []) each (all.lists l.number (All-head K l leaves known))) (each_leaf P V ls leaves all (All-tail K l leaves known) each)
+
+-- the versions that the leaves list are theirs without some that are dead
+versions_of : (V : List Stored) (ls : List (List RowId)) (leaves : List LeafId) → map version_of (all_listed_in V ls leaves) ≡ flat_map (λ leaf. map version_of (listed_in V ls leaf.number)) leaves
+versions_of V ls [] = refl
+versions_of V ls (l ∷ leaves) = map-append version_of (listed_in V ls l.number) (all_listed_in V ls leaves) ∙ ap (λ vs. map version_of (listed_in V ls l.number) ++ vs) (versions_of V ls leaves)
+
+all_thin : (kept : KeptRows) (h : History) (leaves : List LeafId) → All (λ leaf. leaf.number < kept.leaves) leaves → StoreStands kept h → Thins (IsDead h) (all_versions_in h leaves) (map version_of (all_listed_in kept.stored kept.listed leaves))
+all_thin kept h leaves known st =
+    subst (Thins (IsDead h) (all_versions_in h leaves)) (sym (versions_of kept.stored kept.listed leaves))
+    (thin_flat_map (IsDead h) (versions_in h) (λ leaf. map version_of (listed_in kept.stored kept.listed leaf.number)) leaves
+    (All-weaker (λ leaf. leaf.number < kept.leaves) (λ leaf. Thins (IsDead h) (versions_in h leaf) (map version_of (listed_in kept.stored kept.listed leaf.number))) (λ leaf lt. st.lists leaf.number lt) leaves known))
 
 -- ---- the first that refuses, and who sees one
 
@@ -126,24 +135,41 @@ any_told table h r b (x ∷ xs) all =
     ]
 
 all_told : (table : KeptTable) (kept : KeptRows) (h : History) → ((k : ℕ) → k < length kept.stored → (slice_index_or kept.stored k blank).version.id.number ≡ k) → TableStands table h → StoreStands kept h → Each (IsTold table h) kept.stored
-all_told table kept h numbered txs st = each_at (IsTold table h) kept.stored (λ k lt.
-    let x : Stored = slice_index_or kept.stored k blank in
-    let n : x.version.id.number ≡ k = numbered k lt in
-    told table h x txs (ap (counted (tx_events h)) (st.ends k) ∙ sym (end_of-last h k st.sound) ∙ ap (end_of h) (sym n)))
+all_told table kept h numbered txs st = each_at (IsTold table h) kept.stored (λ k lt. told table h (slice_index_or kept.stored k blank) txs (ends_told kept h numbered st k lt))
 
-pub refusing_is : (table : KeptTable) (kept : KeptRows) (h : History) (session me : ℕ) (leaves : List LeafId) (b : List Value → Bool) → ((k : ℕ) → k < length kept.stored → (slice_index_or kept.stored k blank).version.id.number ≡ k) → TableStands table h → StoreStands kept h
-    → refusing h session me leaves b ≡ option_map version_of (refusing_by table session me b (all_kept_in kept.stored leaves))
-refusing_is table kept h session me leaves b numbered txs st =
-    let all = each_kept (IsTold table h) kept.stored leaves (all_told table kept h numbered txs st) in
-    ap (λ (vs : List Version). find (λ v. is_live h me v || is_held_seen h session v) (filter (λ v. b v.row) vs)) (versions_kept kept.stored (versions h) leaves st.births)
-    ∙ find_told table h session me b (all_kept_in kept.stored leaves) all
+-- what is asked of the leaves of a store
+pub record AreAsked (table : KeptTable) (kept : KeptRows) (h : History) (leaves : List LeafId) : Type 0 where
+  pub all : AreListed kept.stored kept.listed
+  pub count : kept.leaves ≡ length kept.listed
+  pub known : All (λ leaf. leaf.number < kept.leaves) leaves
+  pub txs : TableStands table h
+  pub store : StoreStands kept h
 
-pub seeing_is : (table : KeptTable) (kept : KeptRows) (h : History) (session : ℕ) (leaves : List LeafId) (b : List Value → Bool) (r : ℕ) → ((k : ℕ) → k < length kept.stored → (slice_index_or kept.stored k blank).version.id.number ≡ k) → TableStands table h → StoreStands kept h
-    → seeing h session leaves b r ≡ seeing_by table session b (all_kept_in kept.stored leaves) r
-seeing_is table kept h session leaves b r numbered txs st =
-    let all = each_kept (IsTold table h) kept.stored leaves (all_told table kept h numbered txs st) in
-    ap (λ (vs : List Version). not (r == session) && list_any (is_held_seen h r) (filter (λ v. b v.row) vs)) (versions_kept kept.stored (versions h) leaves st.births)
-    ∙ ap (λ c. not (r == session) && c) (any_told table h r b (all_kept_in kept.stored leaves) all)
+asked_told : (table : KeptTable) (kept : KeptRows) (h : History) (leaves : List LeafId) → AreAsked table kept h leaves → Each (IsTold table h) (all_listed_in kept.stored kept.listed leaves)
+asked_told table kept h leaves are =
+    let known : All (λ (leaf : LeafId). leaf.number < length kept.listed) leaves = subst (λ n. All (λ (leaf : LeafId). leaf.number < n) leaves) are.count are.known in
+    each_leaf (IsTold table h) kept.stored kept.listed leaves are.all known (all_told table kept h are.all.numbered are.txs are.store)
+
+pub refusing_is : (table : KeptTable) (kept : KeptRows) (h : History) (session me : ℕ) (leaves : List LeafId) (b : List Value → Bool) → fate (tx_events h) me ≡ Running → AreAsked table kept h leaves
+    → refusing h session me leaves b ≡ option_map version_of (refusing_by table session me b (all_listed_in kept.stored kept.listed leaves))
+refusing_is table kept h session me leaves b runs are =
+    let P : Version → Bool = λ v. is_live h me v || is_held_seen h session v in
+    let R : Version → Bool = λ v. b v.row in
+    let listed : List Stored = all_listed_in kept.stored kept.listed leaves in
+    let thin = thin_passed (IsDead h) R (all_versions_in h leaves) (map version_of listed) (all_thin kept h leaves are.known are.store) in
+    sym (thin_find (IsDead h) P (λ v dead. dead_refuses h session me v runs dead) (filter R (all_versions_in h leaves)) (filter R (map version_of listed)) thin)
+    ∙ find_told table h session me b listed (asked_told table kept h leaves are)
+
+pub seeing_is : (table : KeptTable) (kept : KeptRows) (h : History) (session : ℕ) (leaves : List LeafId) (b : List Value → Bool) (r : ℕ) → AreAsked table kept h leaves
+    → seeing h session leaves b r ≡ seeing_by table session b (all_listed_in kept.stored kept.listed leaves) r
+seeing_is table kept h session leaves b r are =
+    let R : Version → Bool = λ v. b v.row in
+    let listed : List Stored = all_listed_in kept.stored kept.listed leaves in
+    let thin = thin_passed (IsDead h) R (all_versions_in h leaves) (map version_of listed) (all_thin kept h leaves are.known are.store) in
+    ap (λ c. not (r == session) && c) (
+    sym (thin_any (IsDead h) (is_held_seen h r) (λ v dead. held_unseen h r v dead) (filter R (all_versions_in h leaves)) (filter R (map version_of listed)) thin)
+    ∙ any_told table h r b listed (asked_told table kept h leaves are)
+    )
 
 -- ---- one more version, or leaf
 
@@ -209,50 +235,39 @@ next_refuses table session me b V ids i d x lt at before against =
     let whole : map (stored_at V) ids ≡ map (stored_at V) (take (i + 1) ids) ++ map (stored_at V) (drop (i + 1) ids) = ap (map (stored_at V)) (sym (take-append-drop (i + 1) ids)) ∙ map-append (stored_at V) (take (i + 1) ids) (drop (i + 1) ids) in
     ap (find p) whole ∙ refusing_stays p _ (map (stored_at V) (drop (i + 1) ids)) _ so_far ∙ ap (λ y. Some y) (sym at)
 
--- the numbers that a leaf lists are those of its versions
-pub listed_kept : (V : List Stored) (ls : List (List RowId)) (leaf : LeafId) (ids : List RowId) → AreListed V ls → leaf.number < length ls → ids ≡ slice_index_or ls leaf.number [] → map (stored_at V) ids ≡ kept_in V leaf
-listed_kept V ls leaf ids all lt at = ap (map (stored_at V)) (at ∙ all.lists leaf.number lt) ∙ found V ls leaf.number all
+-- what a leaf lists, read from its list
+pub listed_is : (V : List Stored) (ls : List (List RowId)) (leaf : LeafId) (ids : List RowId) → ids ≡ slice_index_or ls leaf.number [] → map (stored_at V) ids ≡ listed_in V ls leaf.number
+listed_is V ls leaf ids at = ap (map (stored_at V)) at
 
-kept_more : (V : List Stored) (leaves : List LeafId) (i : ℕ) (d : LeafId) → i < length leaves → all_kept_in V (take (i + 1) leaves) ≡ all_kept_in V (take i leaves) ++ kept_in V (get_or leaves i d)
-kept_more V leaves i d lt = ap (all_kept_in V) (take_more leaves i d lt) ∙ flat_map-append (kept_in V) (take i leaves) (get_or leaves i d ∷ []) ∙ ap (λ xs. all_kept_in V (take i leaves) ++ xs) (append-nil (kept_in V (get_or leaves i d)))
+listed_more : (V : List Stored) (ls : List (List RowId)) (leaves : List LeafId) (i : ℕ) (d : LeafId) → i < length leaves → all_listed_in V ls (take (i + 1) leaves) ≡ all_listed_in V ls (take i leaves) ++ listed_in V ls (get_or leaves i d).number
+listed_more V ls leaves i d lt =
+    ap (all_listed_in V ls) (take_more leaves i d lt)
+    ∙ flat_map-append (λ (leaf : LeafId). listed_in V ls leaf.number) (take i leaves) (get_or leaves i d ∷ [])
+    ∙ ap (λ xs. all_listed_in V ls (take i leaves) ++ xs) (append-nil (listed_in V ls (get_or leaves i d).number))
 
-pub leaf_passes : (table : KeptTable) (session me : ℕ) (b : List Value → Bool) (V xs : List Stored) (leaves : List LeafId) (i : ℕ) (d : LeafId) → i < length leaves → xs ≡ kept_in V (get_or leaves i d)
-    → refusing_by table session me b (all_kept_in V (take i leaves)) ≡ None → refusing_by table session me b xs ≡ None
-    → refusing_by table session me b (all_kept_in V (take (i + 1) leaves)) ≡ None
-leaf_passes table session me b V xs leaves i d lt at before here =
+pub leaf_passes : (table : KeptTable) (session me : ℕ) (b : List Value → Bool) (V xs : List Stored) (ls : List (List RowId)) (leaves : List LeafId) (i : ℕ) (d : LeafId) → i < length leaves → xs ≡ listed_in V ls (get_or leaves i d).number
+    → refusing_by table session me b (all_listed_in V ls (take i leaves)) ≡ None → refusing_by table session me b xs ≡ None
+    → refusing_by table session me b (all_listed_in V ls (take (i + 1) leaves)) ≡ None
+leaf_passes table session me b V xs ls leaves i d lt at before here =
     let p : Stored → Bool = λ y. b y.version.row && refuses_by table session me y in
-    ap (find p) (kept_more V leaves i d lt) ∙ refusing_none p (all_kept_in V (take i leaves)) (kept_in V (get_or leaves i d)) before (ap (find p) (sym at) ∙ here)
+    ap (find p) (listed_more V ls leaves i d lt) ∙ refusing_none p (all_listed_in V ls (take i leaves)) (listed_in V ls (get_or leaves i d).number) before (ap (find p) (sym at) ∙ here)
 
-pub leaf_seen : (table : KeptTable) (session : ℕ) (b : List Value → Bool) (V xs : List Stored) (leaves : List LeafId) (i : ℕ) (d : LeafId) (old more new : SessionSet) (r : ℕ) → i < length leaves → xs ≡ kept_in V (get_or leaves i d)
-    → has old r ≡ seeing_by table session b (all_kept_in V (take i leaves)) r → has more r ≡ seeing_by table session b xs r → has new r ≡ (has old r || has more r)
-    → has new r ≡ seeing_by table session b (all_kept_in V (take (i + 1) leaves)) r
-leaf_seen table session b V xs leaves i d old more new r lt at before here both =
-    both ∙ ap (λ c. c || has more r) before ∙ ap (λ c. seeing_by table session b (all_kept_in V (take i leaves)) r || c) (here ∙ ap (λ ys. seeing_by table session b ys r) at)
-    ∙ sym (seeing_both table session b (all_kept_in V (take i leaves)) (kept_in V (get_or leaves i d)) r)
-    ∙ ap (λ ys. seeing_by table session b ys r) (sym (kept_more V leaves i d lt))
+pub leaf_seen : (table : KeptTable) (session : ℕ) (b : List Value → Bool) (V xs : List Stored) (ls : List (List RowId)) (leaves : List LeafId) (i : ℕ) (d : LeafId) (old more new : SessionSet) (r : ℕ) → i < length leaves → xs ≡ listed_in V ls (get_or leaves i d).number
+    → has old r ≡ seeing_by table session b (all_listed_in V ls (take i leaves)) r → has more r ≡ seeing_by table session b xs r → has new r ≡ (has old r || has more r)
+    → has new r ≡ seeing_by table session b (all_listed_in V ls (take (i + 1) leaves)) r
+leaf_seen table session b V xs ls leaves i d old more new r lt at before here both =
+    both ∙ ap (λ c. c || has more r) before ∙ ap (λ c. seeing_by table session b (all_listed_in V ls (take i leaves)) r || c) (here ∙ ap (λ ys. seeing_by table session b ys r) at)
+    ∙ sym (seeing_both table session b (all_listed_in V ls (take i leaves)) (listed_in V ls (get_or leaves i d).number) r)
+    ∙ ap (λ ys. seeing_by table session b ys r) (sym (listed_more V ls leaves i d lt))
 
-pub leaf_refuses : (table : KeptTable) (session me : ℕ) (b : List Value → Bool) (V xs : List Stored) (leaves : List LeafId) (i : ℕ) (d : LeafId) (x : Stored) → i < length leaves → xs ≡ kept_in V (get_or leaves i d)
-    → refusing_by table session me b (all_kept_in V (take i leaves)) ≡ None → refusing_by table session me b xs ≡ Some x
-    → refusing_by table session me b (all_kept_in V leaves) ≡ Some x
-leaf_refuses table session me b V xs leaves i d x lt at before here =
+pub leaf_refuses : (table : KeptTable) (session me : ℕ) (b : List Value → Bool) (V xs : List Stored) (ls : List (List RowId)) (leaves : List LeafId) (i : ℕ) (d : LeafId) (x : Stored) → i < length leaves → xs ≡ listed_in V ls (get_or leaves i d).number
+    → refusing_by table session me b (all_listed_in V ls (take i leaves)) ≡ None → refusing_by table session me b xs ≡ Some x
+    → refusing_by table session me b (all_listed_in V ls leaves) ≡ Some x
+leaf_refuses table session me b V xs ls leaves i d x lt at before here =
     let p : Stored → Bool = λ y. b y.version.row && refuses_by table session me y in
-    let so_far : find p (all_kept_in V (take (i + 1) leaves)) ≡ Some x = ap (find p) (kept_more V leaves i d lt) ∙ refusing_next p (all_kept_in V (take i leaves)) (kept_in V (get_or leaves i d)) x before (ap (find p) (sym at) ∙ here) in
-    let whole : all_kept_in V leaves ≡ all_kept_in V (take (i + 1) leaves) ++ all_kept_in V (drop (i + 1) leaves) = ap (all_kept_in V) (sym (take-append-drop (i + 1) leaves)) ∙ flat_map-append (kept_in V) (take (i + 1) leaves) (drop (i + 1) leaves) in
-    ap (find p) whole ∙ refusing_stays p _ (all_kept_in V (drop (i + 1) leaves)) x so_far
-
-each_passed : (P Q : Stored → Type 0) (p : Stored → Bool) (xs : List Stored) → ((x : Stored) → P x → p x ≡ true → Q x) → Each P xs → Each Q (filter p xs)
-each_passed P Q p [] to all = tt
-each_passed P Q p (x ∷ xs) to all = elim (cases_Bool (p x)) [ inl t ↦ rw t (to x all.0 t, each_passed P Q p xs to all.1) | inr f ↦ rw f (each_passed P Q p xs to all.1) ]
-
-each_get : (P : Stored → Type 0) (xs : List Stored) (k : ℕ) → k < length xs → Each P xs → P (slice_index_or xs k blank)
-each_get P [] k lt all = absurd (omega arith)
-each_get P (x ∷ xs) zero lt all = all.0
-each_get P (x ∷ xs) (suc k) lt all = each_get P xs k (omega (arith, lt)) all.1
-
-at_number : (V : List Stored) (ids : List RowId) (k : ℕ) → k < length ids → slice_index_or (map (stored_at V) ids) k blank ≡ stored_at V (slice_index_or ids k no_id)
-at_number V [] k lt = absurd (omega arith)
-at_number V (i ∷ ids) zero lt = refl
-at_number V (i ∷ ids) (suc k) lt = at_number V ids k (omega (arith, lt))
+    let so_far : find p (all_listed_in V ls (take (i + 1) leaves)) ≡ Some x = ap (find p) (listed_more V ls leaves i d lt) ∙ refusing_next p (all_listed_in V ls (take i leaves)) (listed_in V ls (get_or leaves i d).number) x before (ap (find p) (sym at) ∙ here) in
+    let whole : all_listed_in V ls leaves ≡ all_listed_in V ls (take (i + 1) leaves) ++ all_listed_in V ls (drop (i + 1) leaves) = ap (all_listed_in V ls) (sym (take-append-drop (i + 1) leaves)) ∙ flat_map-append (λ (leaf : LeafId). listed_in V ls leaf.number) (take (i + 1) leaves) (drop (i + 1) leaves) in
+    ap (find p) whole ∙ refusing_stays p _ (all_listed_in V ls (drop (i + 1) leaves)) x so_far
 
 leaf_is : (a b : LeafId) → (a.number == b.number) ≡ true → a ≡ b
 leaf_is a b e =
@@ -265,60 +280,66 @@ version_there [] k lt = absurd (omega arith)
 version_there (x ∷ xs) zero lt = (0, omega arith, refl)
 version_there (x ∷ xs) (suc k) lt = let c = version_there xs k (omega (arith, lt)) in (suc c.0, omega (arith, c.1), c.2)
 
--- each row of a leaf suits
+-- each row that a leaf lists suits
 pub leaf_suits : (suits : List Value → Type 0) (V : List Stored) (ls : List (List RowId)) (leaves : List LeafId) (leaf : LeafId) (ids : List RowId) → AreListed V ls → leaf.number < length ls → ids ≡ slice_index_or ls leaf.number [] → Contains leaves leaf
     → ((v : Version) → Contains (map version_of V) v → Contains leaves v.leaf → suits v.row)
     → (k : ℕ) → k < length ids → suits (stored_at V (slice_index_or ids k no_id)).version.row
 leaf_suits suits V ls leaves leaf ids all lt at there suited k known =
-    let P : Stored → Type 0 = λ x. Contains leaves x.version.leaf → suits x.version.row in
-    let Q : Stored → Type 0 = λ x. suits x.version.row in
-    let is : map (stored_at V) ids ≡ kept_in V leaf = listed_kept V ls leaf ids all lt at in
-    let each : Each P V = each_at P V (λ j below. suited (slice_index_or V j blank).version (version_there V j below)) in
-    let to : (x : Stored) → P x → in_leaf leaf.number x ≡ true → Q x = λ x may own. may (subst (λ l. Contains leaves l) (sym (leaf_is x.version.leaf leaf own)) there) in
-    let passed : Each Q (kept_in V leaf) = each_passed P Q (in_leaf leaf.number) V to each in
-    let rows : Each Q (map (stored_at V) ids) = subst (Each Q) (sym is) passed in
-    let long : k < length (map (stored_at V) ids) = omega (arith, known, length-map ids (stored_at V)) in
-    subst Q (at_number V ids k known) (each_get Q (map (stored_at V) ids) k long rows)
+    let own : All (IsOf V leaf.number) ids = subst (All (IsOf V leaf.number)) (sym at) (all.lists leaf.number lt) in
+    let id : RowId = slice_index_or ids k no_id in
+    let is : IsOf V leaf.number id = own k no_id known in
+    let x : Stored = stored_at V id in
+    suited x.version (version_there V id.number is.0) (subst (λ (l : LeafId). Contains leaves l) (sym (leaf_is x.version.leaf leaf is.1)) there)
 
 -- ---- the verdict
 
 -- the row that refuses
-pub violator_is : (table : KeptTable) (kept : KeptRows) (h : History) (session me : ℕ) (leaves : List LeafId) (b : List Value → Bool) (x : Stored) → ((k : ℕ) → k < length kept.stored → (slice_index_or kept.stored k blank).version.id.number ≡ k) → TableStands table h → StoreStands kept h
-    → refusing_by table session me b (all_kept_in kept.stored leaves) ≡ Some x → refusing h session me leaves b ≡ Some x.version
-violator_is table kept h session me leaves b x numbered txs st first = refusing_is table kept h session me leaves b numbered txs st ∙ ap (option_map version_of) first
+pub violator_is : (table : KeptTable) (kept : KeptRows) (h : History) (session me : ℕ) (leaves : List LeafId) (b : List Value → Bool) (x : Stored) → fate (tx_events h) me ≡ Running → AreAsked table kept h leaves
+    → refusing_by table session me b (all_listed_in kept.stored kept.listed leaves) ≡ Some x → refusing h session me leaves b ≡ Some x.version
+violator_is table kept h session me leaves b x runs are first = refusing_is table kept h session me leaves b runs are ∙ ap (option_map version_of) first
 
 -- what is found where none refuses
-pub verdict_is : (table : KeptTable) (kept : KeptRows) (h : History) (session me : ℕ) (leaves : List LeafId) (b : List Value → Bool) (others : SessionSet) (verdict : Verdict) → ((k : ℕ) → k < length kept.stored → (slice_index_or kept.stored k blank).version.id.number ≡ k) → TableStands table h → StoreStands kept h
-    → refusing_by table session me b (all_kept_in kept.stored leaves) ≡ None → ((r : ℕ) → has others r ≡ seeing_by table session b (all_kept_in kept.stored leaves) r) → IsFound others verdict → IsVerdict h session me leaves b verdict
-verdict_is table kept h session me leaves b others Clean numbered txs st none seen told_so =
-    (refusing_is table kept h session me leaves b numbered txs st ∙ ap (option_map version_of) none, λ r. seeing_is table kept h session leaves b r numbered txs st ∙ sym (seen r) ∙ told_so r)
-verdict_is table kept h session me leaves b others (Violator row) numbered txs st none seen told_so = absurd told_so
-verdict_is table kept h session me leaves b others (Seen told) numbered txs st none seen told_so =
+pub verdict_is : (table : KeptTable) (kept : KeptRows) (h : History) (session me : ℕ) (leaves : List LeafId) (b : List Value → Bool) (others : SessionSet) (verdict : Verdict) → fate (tx_events h) me ≡ Running → AreAsked table kept h leaves
+    → refusing_by table session me b (all_listed_in kept.stored kept.listed leaves) ≡ None → ((r : ℕ) → has others r ≡ seeing_by table session b (all_listed_in kept.stored kept.listed leaves) r) → IsFound others verdict → IsVerdict h session me leaves b verdict
+verdict_is table kept h session me leaves b others Clean runs are none seen told_so =
+    (refusing_is table kept h session me leaves b runs are ∙ ap (option_map version_of) none, λ r. seeing_is table kept h session leaves b r are ∙ sym (seen r) ∙ told_so r)
+verdict_is table kept h session me leaves b others (Violator row) runs are none seen told_so = absurd told_so
+verdict_is table kept h session me leaves b others (Seen told) runs are none seen told_so =
     let in_told : (r : ℕ) → has told r ≡ has others r = λ r. ap (λ s. has s r) told_so.0 in (
-      refusing_is table kept h session me leaves b numbered txs st ∙ ap (option_map version_of) none,
-      λ r. in_told r ∙ seen r ∙ sym (seeing_is table kept h session leaves b r numbered txs st),
+      refusing_is table kept h session me leaves b runs are ∙ ap (option_map version_of) none,
+      λ r. in_told r ∙ seen r ∙ sym (seeing_is table kept h session leaves b r are),
       (told_so.1.0, in_told told_so.1.0 ∙ told_so.1.1),
     )
 
 -- the numbers that a leaf lists are those of versions
 pub numbers_below : (V : List Stored) (ls : List (List RowId)) (leaf : LeafId) (ids : List RowId) → AreListed V ls → leaf.number < length ls → ids ≡ slice_index_or ls leaf.number [] → AreBelow ids V
-numbers_below V ls leaf ids all lt at = subst (λ x. AreBelow x V) (sym (at ∙ all.lists leaf.number lt)) (ids_below (length V) leaf.number V (λ k h. rw (all.numbered k h) h))
+numbers_below V ls leaf ids all lt at = subst (λ x. AreBelow x V) (sym at) (all_below V leaf.number (slice_index_or ls leaf.number []) (all.lists leaf.number lt))
 
 -- the same, by what the code reads
-pub judged_row : (table : KeptTable) (V W : List Stored) (ls : List (List RowId)) (room : ℕ) (value : KeptRows) (h : History) (session me : ℕ) (leaves : List LeafId) (b : List Value → Bool) (x : Stored) → AreListed V ls → (record { stored = V; leaves = length ls; room = room }) ≡ value → W ≡ V → TableStands table h → StoreStands value h
-    → refusing_by table session me b (all_kept_in W leaves) ≡ Some x → refusing h session me leaves b ≡ Some x.version
-judged_row table V W ls room value h session me leaves b x all view same txs st e =
-    let kept : KeptRows = record { stored = V; leaves = length ls; room = room } in
-    let S : KeptRows → Type 0 = λ k. StoreStands k h in
-    violator_is table kept h session me leaves b x all.numbered txs (subst S (sym view) st) (ap (λ ys. refusing_by table session me b (all_kept_in ys leaves)) (sym same) ∙ e)
+judging_runs : (table : KeptTable) (h : History) (me : ℕ) → IsOpen table me → TableStands table h → fate (tx_events h) me ≡ Running
+judging_runs table h me open_me txs = (by_runs table h me open_me txs).runs
 
-pub judged_set : (table : KeptTable) (V W : List Stored) (ls : List (List RowId)) (room : ℕ) (value : KeptRows) (h : History) (session me : ℕ) (leaves : List LeafId) (b : List Value → Bool) (others : SessionSet) (verdict : Verdict) → AreListed V ls → (record { stored = V; leaves = length ls; room = room }) ≡ value → W ≡ V → TableStands table h → StoreStands value h
-    → refusing_by table session me b (all_kept_in W leaves) ≡ None → ((r : ℕ) → has others r ≡ seeing_by table session b (all_kept_in W leaves) r) → IsFound others verdict → IsVerdict h session me leaves b verdict
-judged_set table V W ls room value h session me leaves b others verdict all view same txs st none seen told_so =
-    let kept : KeptRows = record { stored = V; leaves = length ls; room = room } in
+asked_by : (table : KeptTable) (V : List Stored) (ls : List (List RowId)) (room : ℕ) (value : KeptRows) (h : History) (leaves : List LeafId) → AreListed V ls → (record { stored = V; leaves = length ls; listed = ls; room = room }) ≡ value → All (λ leaf. leaf.number < value.leaves) leaves → TableStands table h → StoreStands value h
+    → AreAsked table (record { stored = V; leaves = length ls; listed = ls; room = room }) h leaves
+asked_by table V ls room value h leaves all view known txs st =
     let S : KeptRows → Type 0 = λ k. StoreStands k h in
-    verdict_is table kept h session me leaves b others verdict all.numbered txs (subst S (sym view) st)
-    (ap (λ ys. refusing_by table session me b (all_kept_in ys leaves)) (sym same) ∙ none) (λ r. seen r ∙ ap (λ ys. seeing_by table session b (all_kept_in ys leaves) r) same) told_so
+    let K : KeptRows → Type 0 = λ k. All (λ (leaf : LeafId). leaf.number < k.leaves) leaves in
+    record { all = all; count = refl; known = subst K (sym view) known; txs = txs; store = subst S (sym view) st }
+
+pub judged_row : (table : KeptTable) (V W : List Stored) (ls ms : List (List RowId)) (room : ℕ) (value : KeptRows) (h : History) (session me : ℕ) (leaves : List LeafId) (b : List Value → Bool) (x : Stored) → AreListed V ls → (record { stored = V; leaves = length ls; listed = ls; room = room }) ≡ value → W ≡ V → ms ≡ ls → All (λ leaf. leaf.number < value.leaves) leaves → IsOpen table me → TableStands table h → StoreStands value h
+    → refusing_by table session me b (all_listed_in W ms leaves) ≡ Some x → refusing h session me leaves b ≡ Some x.version
+judged_row table V W ls ms room value h session me leaves b x all view same lists known open_me txs st e =
+    let kept : KeptRows = record { stored = V; leaves = length ls; listed = ls; room = room } in
+    let read : all_listed_in W ms leaves ≡ all_listed_in V ls leaves = ap (λ ys. all_listed_in ys ms leaves) same ∙ ap (λ ns. all_listed_in V ns leaves) lists in
+    violator_is table kept h session me leaves b x (judging_runs table h me open_me txs) (asked_by table V ls room value h leaves all view known txs st) (ap (refusing_by table session me b) (sym read) ∙ e)
+
+pub judged_set : (table : KeptTable) (V W : List Stored) (ls ms : List (List RowId)) (room : ℕ) (value : KeptRows) (h : History) (session me : ℕ) (leaves : List LeafId) (b : List Value → Bool) (others : SessionSet) (verdict : Verdict) → AreListed V ls → (record { stored = V; leaves = length ls; listed = ls; room = room }) ≡ value → W ≡ V → ms ≡ ls → All (λ leaf. leaf.number < value.leaves) leaves → IsOpen table me → TableStands table h → StoreStands value h
+    → refusing_by table session me b (all_listed_in W ms leaves) ≡ None → ((r : ℕ) → has others r ≡ seeing_by table session b (all_listed_in W ms leaves) r) → IsFound others verdict → IsVerdict h session me leaves b verdict
+judged_set table V W ls ms room value h session me leaves b others verdict all view same lists known open_me txs st none seen told_so =
+    let kept : KeptRows = record { stored = V; leaves = length ls; listed = ls; room = room } in
+    let read : all_listed_in W ms leaves ≡ all_listed_in V ls leaves = ap (λ ys. all_listed_in ys ms leaves) same ∙ ap (λ ns. all_listed_in V ns leaves) lists in
+    verdict_is table kept h session me leaves b others verdict (judging_runs table h me open_me txs) (asked_by table V ls room value h leaves all view known txs st)
+    (ap (refusing_by table session me b) (sym read) ∙ none) (λ r. seen r ∙ ap (λ ys. seeing_by table session b ys r) read) told_so
 
 -- ---- the sessions one after the other
 

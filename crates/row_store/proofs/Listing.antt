@@ -1,9 +1,8 @@
 -- The lists of leaves, after each change.
-use Rattle.std.proofs.Common.{◌≡◌, ℕ, ◌+◌, ◌<◌, ◌≤◌, ◌⊎◌, Option, Some, None, slice_get, ◌==◌, zero, suc, arith, ap, sym, ◌∙◌, refl, List, [], ◌∷◌, ◌++◌, map, filter, true, false, Bool, if◌then◌else◌, inl, inr, length, slice_index_or, slice_set, length-append, append-nil}
+use Rattle.std.proofs.Common.{◌≡◌, ℕ, ◌+◌, ◌<◌, ◌≤◌, ◌⊎◌, Option, Some, None, slice_get, ◌==◌, zero, suc, arith, ap, sym, subst, ◌∙◌, refl, List, [], ◌∷◌, ◌++◌, map, true, false, Bool, if◌then◌else◌, inl, inr, All, length, slice_index_or, slice_set, length-append}
 use Rattle.std.proofs.lemmas.Grind.{common_steps, elements}
-use Rattle.std.proofs.lemmas.List.{map-append}
-use Rattle.std.proofs.lemmas.List.Elements.{filter-append}
-use Rattle.std.proofs.lemmas.Bool.{cases_Bool, cases_lt}
+use Rattle.std.proofs.lemmas.List.Elements.{All-nil, All-head, All-tail, All-push, All-weaker}
+use Rattle.std.proofs.lemmas.Bool.{cases_lt}
 use Rattle.std.proofs.lemmas.Bool.Decides.{nat_tests}
 use Rattle.pg_values.specs.declared.ids.RowId.{RowId}
 use Rattle.history.specs.declared.transaction.TxId.{TxId}
@@ -13,18 +12,7 @@ use Rattle.history.specs.declared.version.Ending.{Ending}
 use Rattle.history.specs.declared.version.Ending.TheVariants.{Deleted, MovedTo, ReplacedBy}
 use Rattle.history.specs.RowsSound.{IsEndingKnown}
 use Rattle.row_store.specs.declared.stored.Stored.{Stored}
-use Rattle.row_store.specs.Kept.{blank, version_of, id_of, in_leaf, ids_in, stored_at, IsEndKept, AreListed}
-
--- a version behind the others is listed behind the others
-pub ids_behind : (l : ℕ) (xs : List Stored) (x : Stored) → in_leaf l x ≡ true → ids_in l (xs ++ x ∷ []) ≡ ids_in l xs ++ x.version.id ∷ []
-ids_behind l xs x e =
-    let one : filter (in_leaf l) (x ∷ []) ≡ x ∷ [] = rw e refl in
-    ap (map id_of) (filter-append (in_leaf l) xs (x ∷ []) ∙ ap (λ ys. filter (in_leaf l) xs ++ ys) one) ∙ map-append id_of (filter (in_leaf l) xs) (x ∷ [])
-
-pub ids_elsewhere : (l : ℕ) (xs : List Stored) (x : Stored) → in_leaf l x ≡ false → ids_in l (xs ++ x ∷ []) ≡ ids_in l xs
-ids_elsewhere l xs x e =
-    let none : filter (in_leaf l) (x ∷ []) ≡ [] = rw e refl in
-    ap (map id_of) (filter-append (in_leaf l) xs (x ∷ []) ∙ ap (λ ys. filter (in_leaf l) xs ++ ys) none ∙ append-nil (filter (in_leaf l) xs))
+use Rattle.row_store.specs.Kept.{blank, version_of, in_leaf, stored_at, IsOf, IsEndKept, AreListed}
 
 pub at_before : (xs : List Stored) (x : Stored) (k : ℕ) → k < length xs → slice_index_or (xs ++ x ∷ []) k blank ≡ slice_index_or xs k blank
 at_before [] x k lt = absurd (omega arith)
@@ -37,26 +25,38 @@ at_last [] x (suc k) e = absurd (omega arith)
 at_last (y ∷ ys) x zero e = absurd (omega arith)
 at_last (y ∷ ys) x (suc k) e = at_last ys x k (omega (arith, e))
 
-last_or_before : (k n : ℕ) → k < n + 1 → (k < n → ⊥) → k ≡ n
-last_or_before k n lt not_before = grind arith
-
-place_set : (ls : List (List RowId)) (l m : ℕ) (new : List RowId) → l < length ls → (b : Bool) → (l == m) ≡ b → slice_index_or (slice_set ls l new) m [] ≡ (if b then new else slice_index_or ls m [])
+pub place_set : (ls : List (List RowId)) (l m : ℕ) (new : List RowId) → l < length ls → (b : Bool) → (l == m) ≡ b → slice_index_or (slice_set ls l new) m [] ≡ (if b then new else slice_index_or ls m [])
 place_set ls l m new lt true e = grind (arith, common_steps, elements, nat_tests)
 place_set ls l m new lt false e = grind (arith, common_steps, elements, nat_tests)
-
-lists_behind : (xs : List Stored) (ls : List (List RowId)) (x : Stored) (m : ℕ) → AreListed xs ls → x.version.leaf.number < length ls → m < length ls → (b : Bool) → (x.version.leaf.number == m) ≡ b → slice_index_or (slice_set ls x.version.leaf.number (slice_index_or ls x.version.leaf.number [] ++ x.version.id ∷ [])) m [] ≡ ids_in m (xs ++ x ∷ [])
-lists_behind xs ls x m all lt known true e =
-    let same : x.version.leaf.number ≡ m = grind (arith, nat_tests) in
-    let here : slice_index_or ls x.version.leaf.number [] ≡ ids_in m xs = ap (λ i. slice_index_or ls i []) same ∙ all.lists m known in
-    place_set ls x.version.leaf.number m _ lt true e ∙ ap (λ is. is ++ x.version.id ∷ []) here ∙ sym (ids_behind m xs x e)
-lists_behind xs ls x m all lt known false e =
-    place_set ls x.version.leaf.number m _ lt false e ∙ all.lists m known ∙ sym (ids_elsewhere m xs x e)
 
 pub length_set : (ls : List (List RowId)) (l : ℕ) (new : List RowId) → length (slice_set ls l new) ≡ length ls
 length_set ls l new = grind (arith, common_steps, elements)
 
 length_behind : (xs : List Stored) (x : Stored) → length (xs ++ x ∷ []) ≡ length xs + 1
 length_behind xs x = length-append xs (x ∷ [])
+
+-- a number goes on to be that of a version of the leaf
+pub of_more : (xs : List Stored) (x : Stored) (l : ℕ) (id : RowId) → IsOf xs l id → IsOf (xs ++ x ∷ []) l id
+of_more xs x l id of = (omega (arith, of.0, length_behind xs x), ap (in_leaf l) (at_before xs x id.number of.0) ∙ of.1)
+
+in_own : (x : Stored) → in_leaf x.version.leaf.number x ≡ true
+in_own x = grind (arith, common_steps, nat_tests)
+
+of_last : (xs : List Stored) (x : Stored) → x.version.id.number ≡ length xs → IsOf (xs ++ x ∷ []) x.version.leaf.number x.version.id
+of_last xs x id = (omega (arith, id, length_behind xs x), ap (in_leaf x.version.leaf.number) (at_last xs x x.version.id.number id) ∙ in_own x)
+
+-- a version behind the others may be listed behind the others
+pub pushed_of : (xs : List Stored) (x : Stored) (ids : List RowId) → x.version.id.number ≡ length xs → All (IsOf xs x.version.leaf.number) ids → All (IsOf (xs ++ x ∷ []) x.version.leaf.number) (ids ++ x.version.id ∷ [])
+pushed_of xs x ids id all =
+    let l = x.version.leaf.number in
+    All-push (IsOf (xs ++ x ∷ []) l) ids x.version.id (All-weaker (IsOf xs l) (IsOf (xs ++ x ∷ []) l) (λ i of. of_more xs x l i of) ids all) (of_last xs x id)
+
+lists_set : (xs ys : List Stored) (ls : List (List RowId)) (l m : ℕ) (new : List RowId) → l < length ls → ((i : RowId) → IsOf xs m i → IsOf ys m i) → All (IsOf xs m) (slice_index_or ls m []) → All (IsOf ys l) new → (b : Bool) → (l == m) ≡ b → All (IsOf ys m) (slice_index_or (slice_set ls l new) m [])
+lists_set xs ys ls l m new lt more old all true e =
+    let same : l ≡ m = grind (arith, nat_tests) in
+    subst (All (IsOf ys m)) (sym (place_set ls l m new lt true e)) (subst (λ i. All (IsOf ys i) new) same all)
+lists_set xs ys ls l m new lt more old all false e =
+    subst (All (IsOf ys m)) (sym (place_set ls l m new lt false e)) (All-weaker (IsOf xs m) (IsOf ys m) more (slice_index_or ls m []) old)
 
 -- what an end names is there in longer lists too
 ending_more : (vs ws : List Version) (m n k : ℕ) (v : Version) (by : TxId) (how : Ending) → ((i : ℕ) (w : Version) → slice_get vs i ≡ Some w → slice_get ws i ≡ Some w) → m ≤ n → IsEndingKnown vs m k v by how → IsEndingKnown ws n k v by how
@@ -77,11 +77,12 @@ no_end : (xs : List Stored) (n k : ℕ) (v : Version) (o : Option End) → o ≡
 no_end xs n k v None e = tt
 no_end xs n k v (Some x) e = absurd (cc)
 
-pub born_listed : (xs : List Stored) (ls : List (List RowId)) (x : Stored) → AreListed xs ls → x.version.leaf.number < length ls → x.version.id.number ≡ length xs → x.ended ≡ None → AreListed (xs ++ x ∷ []) (slice_set ls x.version.leaf.number (slice_index_or ls x.version.leaf.number [] ++ x.version.id ∷ []))
-born_listed xs ls x all lt id none =
-    let n = length_set ls x.version.leaf.number (slice_index_or ls x.version.leaf.number [] ++ x.version.id ∷ []) in
+-- the version stands behind the others, and its leaf lists what is its own
+pub born_listed : (xs : List Stored) (ls : List (List RowId)) (x : Stored) (new : List RowId) → AreListed xs ls → x.version.leaf.number < length ls → x.version.id.number ≡ length xs → x.ended ≡ None → All (IsOf (xs ++ x ∷ []) x.version.leaf.number) new → AreListed (xs ++ x ∷ []) (slice_set ls x.version.leaf.number new)
+born_listed xs ls x new all lt id none own =
+    let n = length_set ls x.version.leaf.number new in
     record {
-      lists = λ m known. let k : m < length ls = omega (arith, known, n) in lists_behind xs ls x m all lt k (x.version.leaf.number == m) refl;
+      lists = λ m known. let k : m < length ls = omega (arith, known, n) in lists_set xs (xs ++ x ∷ []) ls x.version.leaf.number m new lt (λ i of. of_more xs x m i of) (all.lists m k) own (x.version.leaf.number == m) refl;
       leaf = λ k known. rw n (elim (cases_lt k (length xs)) [
         | inl before ↦ rw (at_before xs x k before) (all.leaf k before)
         | inr after ↦
@@ -108,24 +109,7 @@ same_versions [] k y lt e = absurd (omega arith)
 same_versions (z ∷ xs) zero y lt e = ap (λ v. v ∷ map version_of xs) e
 same_versions (z ∷ xs) (suc k) y lt e = ap (λ vs. z.version ∷ vs) (same_versions xs k y (omega (arith, lt)) e)
 
-same_ids : (l : ℕ) (xs ys : List Stored) → map version_of xs ≡ map version_of ys → ids_in l xs ≡ ids_in l ys
-same_ids l [] [] e = refl
-same_ids l [] (y ∷ ys) e = absurd (cc)
-same_ids l (x ∷ xs) [] e = absurd (cc)
-same_ids l (x ∷ xs) (y ∷ ys) e =
-    let first : x.version ≡ y.version = cc in
-    let others : map version_of xs ≡ map version_of ys = cc in
-    let rest = same_ids l xs ys others in
-    elim (cases_Bool (in_leaf l y)) [
-      | inl t ↦
-          let t' : in_leaf l x ≡ true = ap (λ (v : Version). v.leaf.number == l) first ∙ t in
-          rw (t, t', rest, first) refl
-      | inr f ↦
-          let f' : in_leaf l x ≡ false = ap (λ (v : Version). v.leaf.number == l) first ∙ f in
-          rw (f, f', rest) refl
-    ]
-
-version_after : (xs : List Stored) (k j : ℕ) (y : Stored) → k < length xs → y.version ≡ (slice_index_or xs k blank).version → (slice_index_or (slice_set xs k y) j blank).version ≡ (slice_index_or xs j blank).version
+pub version_after : (xs : List Stored) (k j : ℕ) (y : Stored) → k < length xs → y.version ≡ (slice_index_or xs k blank).version → (slice_index_or (slice_set xs k y) j blank).version ≡ (slice_index_or xs j blank).version
 version_after [] k j y lt e = absurd (omega arith)
 version_after (z ∷ xs) zero zero y lt e = e
 version_after (z ∷ xs) zero (suc j) y lt e = refl
@@ -153,27 +137,19 @@ end_set xs n k j y lt e new old =
 
 pub ended_listed : (xs : List Stored) (ls : List (List RowId)) (k : ℕ) (y : Stored) → k < length xs → y.version ≡ (slice_index_or xs k blank).version → IsEndKept xs (length ls) k y.version y.ended → AreListed xs ls → AreListed (slice_set xs k y) ls
 ended_listed xs ls k y lt e there all = record {
-  lists = λ m known. all.lists m known ∙ same_ids m xs (slice_set xs k y) (sym (same_versions xs k y lt e));
+  lists = λ m known. All-weaker (IsOf xs m) (IsOf (slice_set xs k y) m) (λ i of. (omega (arith, of.0, length_after xs k y), ap (λ (v : Version). v.leaf.number == m) (version_after xs k i.number y lt e) ∙ of.1)) (slice_index_or ls m []) (all.lists m known);
   leaf = λ j known. rw (version_after xs k j y lt e) (all.leaf j (omega (arith, known, length_after xs k y)));
   numbered = λ j known. rw (version_after xs k j y lt e) (all.numbered j (omega (arith, known, length_after xs k y)));
   ends = λ j known. end_set xs (length ls) k j y lt e there (all.ends j (omega (arith, known, length_after xs k y)));
 }
 
--- no version is in a leaf that is not there yet
-none_in : (l : ℕ) (xs : List Stored) → ((k : ℕ) → k < length xs → (slice_index_or xs k blank).version.leaf.number < l) → ids_in l xs ≡ []
-none_in l [] below = refl
-none_in l (x ∷ xs) below =
-    let here : x.version.leaf.number < l = below 0 (omega arith) in
-    let not_here : in_leaf l x ≡ false = grind (arith, nat_tests) in
-    rw not_here (none_in l xs (λ k lt. below (suc k) (omega (arith, lt))))
-
-place_before : (ls : List (List RowId)) (m : ℕ) → slice_index_or (ls ++ [] ∷ []) m [] ≡ slice_index_or ls m []
+pub place_before : (ls : List (List RowId)) (m : ℕ) → slice_index_or (ls ++ [] ∷ []) m [] ≡ slice_index_or ls m []
 place_before [] zero = refl
 place_before [] (suc m) = refl
 place_before (l ∷ ls) zero = refl
 place_before (l ∷ ls) (suc m) = place_before ls m
 
-place_past : (ls : List (List RowId)) (m : ℕ) → m ≡ length ls → slice_index_or ls m [] ≡ []
+pub place_past : (ls : List (List RowId)) (m : ℕ) → m ≡ length ls → slice_index_or ls m [] ≡ []
 place_past [] m e = refl
 place_past (l ∷ ls) zero e = absurd (omega arith)
 place_past (l ∷ ls) (suc m) e = place_past ls m (omega (arith, e))
@@ -181,10 +157,10 @@ place_past (l ∷ ls) (suc m) e = place_past ls m (omega (arith, e))
 pub leaf_listed : (xs : List Stored) (ls : List (List RowId)) → AreListed xs ls → AreListed xs (ls ++ [] ∷ [])
 leaf_listed xs ls all = record {
   lists = λ m known. elim (cases_lt m (length ls)) [
-    | inl before ↦ place_before ls m ∙ all.lists m before
+    | inl before ↦ subst (All (IsOf xs m)) (sym (place_before ls m)) (all.lists m before)
     | inr after ↦
         let last : m ≡ length ls = omega (arith, known, after, length-append ls ([] ∷ [])) in
-        place_before ls m ∙ place_past ls m last ∙ sym (none_in m xs (λ k lt. rw last (all.leaf k lt)))
+        subst (All (IsOf xs m)) (sym (place_before ls m ∙ place_past ls m last)) (All-nil (IsOf xs m))
   ];
   leaf = λ k lt. omega (arith, all.leaf k lt, length-append ls ([] ∷ []));
   numbered = all.numbered;
@@ -194,13 +170,30 @@ leaf_listed xs ls all = record {
 pub none_listed : AreListed [] []
 none_listed = record { lists = λ l lt. absurd (omega arith); leaf = λ k lt. absurd (omega arith); numbered = λ k lt. absurd (omega arith); ends = λ k lt. absurd (omega arith) }
 
--- the listed numbers of a leaf lead back to its versions
-found_in : (V : List Stored) (p : Stored → Bool) (xs : List Stored) → ((k : ℕ) → k < length xs → stored_at V (slice_index_or xs k blank).version.id ≡ slice_index_or xs k blank) → map (stored_at V) (map id_of (filter p xs)) ≡ filter p xs
-found_in V p [] all = refl
-found_in V p (x ∷ xs) all =
-    let first : stored_at V x.version.id ≡ x = all 0 (omega arith) in
-    let rest = found_in V p xs (λ k lt. all (suc k) (omega (arith, lt))) in
-    elim (cases_Bool (p x)) [ inl t ↦ rw (t, first, rest) refl | inr f ↦ rw (f, rest) refl ]
+-- ---- the versions with listed numbers
 
-pub found : (xs : List Stored) (ls : List (List RowId)) (l : ℕ) → AreListed xs ls → map (stored_at xs) (ids_in l xs) ≡ filter (in_leaf l) xs
-found xs ls l all = found_in xs (in_leaf l) xs (λ k lt. ap (λ n. slice_index_or xs n blank) (all.numbered k lt))
+-- they are the same where one stands behind the others, and where one ended
+pub listed_before : (xs : List Stored) (x : Stored) (l : ℕ) (ids : List RowId) → All (IsOf xs l) ids → map version_of (map (stored_at (xs ++ x ∷ [])) ids) ≡ map version_of (map (stored_at xs) ids)
+listed_before xs x l [] all = refl
+listed_before xs x l (i ∷ ids) all =
+    let here = at_before xs x i.number (All-head (IsOf xs l) i ids all).0 in
+    let rest = listed_before xs x l ids (All-tail (IsOf xs l) i ids all) in
+    ap (λ (y : Stored). y.version ∷ map version_of (map (stored_at (xs ++ x ∷ [])) ids)) here ∙ ap (λ vs. (stored_at xs i).version ∷ vs) rest
+
+pub listed_ended : (xs : List Stored) (k : ℕ) (y : Stored) (ids : List RowId) → k < length xs → y.version ≡ (slice_index_or xs k blank).version → map version_of (map (stored_at (slice_set xs k y)) ids) ≡ map version_of (map (stored_at xs) ids)
+listed_ended xs k y [] lt e = refl
+listed_ended xs k y (i ∷ ids) lt e =
+    ap (λ (v : Version). v ∷ map version_of (map (stored_at (slice_set xs k y)) ids)) (version_after xs k i.number y lt e)
+    ∙ ap (λ vs. (stored_at xs i).version ∷ vs) (listed_ended xs k y ids lt e)
+
+-- a lone list, whatever stands past the end
+pub at_leaf : (ls : List (List RowId)) (l : ℕ) (one : List RowId) → l < length ls → one ≡ slice_index_or ls l one → one ≡ slice_index_or ls l []
+at_leaf [] l one lt e = absurd (omega arith)
+at_leaf (x ∷ xs) zero one lt e = e
+at_leaf (x ∷ xs) (suc l) one lt e = at_leaf xs l one (omega (arith, lt)) e
+
+-- what is set anew
+pub set_anew : (ls : List (List RowId)) (l : ℕ) (old new : List RowId) → slice_set (slice_set ls l old) l new ≡ slice_set ls l new
+set_anew [] l old new = refl
+set_anew (x ∷ xs) zero old new = refl
+set_anew (x ∷ xs) (suc l) old new = ap (λ ys. x ∷ ys) (set_anew xs l old new)

@@ -41,7 +41,7 @@ rows_seen table snap V (i ∷ ids) numbered below =
     ]
 
 -- the snapshot's transaction sees the birth of each row that a scan lends
-pub lent_seen : (table : KeptTable) (snap : KeptSnapshot) (V W : List Stored) (ls : List (List RowId)) (room : ℕ) (value : KeptRows) (ids : List RowId) → AreListed V ls → (record { stored = V; leaves = length ls; room = room }) ≡ value → W ≡ V → AreBelow ids W → All (λ r. sees_now_by table snap.tx (stored_at value.stored r.0).version.by.number ≡ true) (map shown_stored (filter (shows_by table snap) (map (stored_at W) ids)))
+pub lent_seen : (table : KeptTable) (snap : KeptSnapshot) (V W : List Stored) (ls : List (List RowId)) (room : ℕ) (value : KeptRows) (ids : List RowId) → AreListed V ls → (record { stored = V; leaves = length ls; listed = ls; room = room }) ≡ value → W ≡ V → AreBelow ids W → All (λ r. sees_now_by table snap.tx (stored_at value.stored r.0).version.by.number ≡ true) (map shown_stored (filter (shows_by table snap) (map (stored_at W) ids)))
 lent_seen table snap V W ls room value ids all view same below =
     let P : KeptRows → Type 0 = λ k. All (λ r. sees_now_by table snap.tx (stored_at k.stored r.0).version.by.number ≡ true) (map shown_stored (filter (shows_by table snap) (map (stored_at W) ids))) in
     let B : List Stored → Type 0 = λ x. AreBelow ids x in

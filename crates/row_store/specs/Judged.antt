@@ -5,20 +5,21 @@ use Rattle.std.specs.List.{list_any, flat_map, Contains}
 use Rattle.pg_values.specs.declared.value.Value.{Value}
 use Rattle.pg_values.specs.Sets.{has}
 use Rattle.pg_values.specs.declared.ids.LeafId.{LeafId}
+use Rattle.pg_values.specs.declared.ids.RowId.{RowId}
 use Rattle.pg_values.specs.declared.session_set.SessionSet.{SessionSet}
 use Rattle.history.specs.declared.transaction.Fate.TheVariants.{Running}
 use Rattle.history.specs.declared.version.Version.{Version}
 use Rattle.history.specs.declared.version.End.{End}
 use Rattle.history.specs.Transactions.{TxEvents, fate, is_committed, sees_now}
-use Rattle.history.specs.Snapshots.{TakenSnapshot, held_by}
-use Rattle.history.specs.History.{History, tx_events, snapshot_events, versions, end_of, is_seen}
+use Rattle.history.specs.History.{History, tx_events, end_of}
+use Rattle.history.specs.Dead.{is_held_seen}
 use Rattle.tx_table.specs.Kept.{KeptTable, KeptSnapshot}
 use Rattle.tx_table.specs.Stands.{sees_now_by}
 use Rattle.row_store.specs.declared.stored.Stored.{Stored}
 use Rattle.row_store.specs.declared.judge.Verdict.{Verdict}
 use Rattle.row_store.specs.declared.judge.Verdict.TheVariants.{Clean, Violator, Seen}
-use Rattle.row_store.specs.Kept.{KeptRows, version_of, in_leaf}
-use Rattle.row_store.specs.Stands.{counts, shows_by}
+use Rattle.row_store.specs.Kept.{KeptRows, version_of, listed_in}
+use Rattle.row_store.specs.Stands.{born_in, counts, shows_by}
 
 -- an end of a version counts for a scan by transaction me: it is committed, or me's own, and the version too
 abbrev pub ends_for : TxEvents → (me : ℕ) → Version → Option End → Bool
@@ -29,17 +30,9 @@ ends_for txs me v (Some e) = is_committed (fate txs e.by.number) || ((e.by.numbe
 abbrev pub is_live : History → (me : ℕ) → Version → Bool
 is_live h me v = sees_now (tx_events h) me v.by.number && not (ends_for (tx_events h) me v (end_of h v.id.number))
 
--- the snapshot that the session holds, if it holds one, sees the version
-abbrev pub sees_if_held : History → Option TakenSnapshot → Version → Bool
-sees_if_held h None v = false
-sees_if_held h (Some s) v = is_seen h s v
-
-abbrev pub is_held_seen : History → (session : ℕ) → Version → Bool
-is_held_seen h session v = sees_if_held h (held_by (snapshot_events h) session) v
-
 -- the versions of a leaf, in order of birth; and those of a list of leaves, leaf by leaf
 abbrev pub versions_in : History → LeafId → List Version
-versions_in h leaf = filter (λ v. v.leaf.number == leaf.number) (versions h)
+versions_in h leaf = born_in h leaf.number
 
 abbrev pub all_versions_in : History → List LeafId → List Version
 all_versions_in h leaves = flat_map (versions_in h) leaves
@@ -91,12 +84,9 @@ is_held_shown table session x = shows_if_held table (slice_index_or table.held s
 abbrev pub refuses_by : KeptTable → (session me : ℕ) → Stored → Bool
 refuses_by table session me x = is_live_by table me x || is_held_shown table session x
 
--- the versions of a list of leaves, leaf by leaf
-abbrev pub kept_in : List Stored → LeafId → List Stored
-kept_in xs leaf = filter (in_leaf leaf.number) xs
-
-abbrev pub all_kept_in : List Stored → List LeafId → List Stored
-all_kept_in xs leaves = flat_map (kept_in xs) leaves
+-- what a list of leaves lists, leaf by leaf
+abbrev pub all_listed_in : List Stored → List (List RowId) → List LeafId → List Stored
+all_listed_in stored lists leaves = flat_map (λ leaf. listed_in stored lists leaf.number) leaves
 
 -- of these versions the first that breaks the test and refuses
 abbrev pub refusing_by : KeptTable → (session me : ℕ) → (breaks : List Value → Bool) → List Stored → Option Stored

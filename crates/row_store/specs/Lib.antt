@@ -1,3 +1,4 @@
+pub mod Dead
 pub mod Judged
 pub mod Kept
 pub mod Limits

@@ -1,5 +1,5 @@
 -- When a store stands for what happened, and what a scan of it shows.
-use Rattle.std.specs.Prelude.{◌≡◌, ℕ, ◌+◌, ◌&&◌, not, Bool, true, false, List, Option, Some, None, map, filter, slice_index_or}
+use Rattle.std.specs.Prelude.{◌≡◌, ℕ, ◌+◌, ◌<◌, ◌==◌, ◌&&◌, not, Bool, true, false, List, Option, Some, None, map, filter, slice_index_or}
 use Rattle.pg_values.specs.declared.value.Value.{Value}
 use Rattle.pg_values.specs.declared.ids.LeafId.{LeafId}
 use Rattle.pg_values.specs.declared.ids.RowId.{RowId}
@@ -11,20 +11,27 @@ use Rattle.history.specs.declared.version.End.{End}
 use Rattle.history.specs.Rows.{last_end, leaf_count}
 use Rattle.history.specs.History.{History, row_events, versions, next_version, Outcome, Standing, outcome_by}
 use Rattle.history.specs.RowsSound.{AreRowsSound}
+use Rattle.history.specs.Thinned.{Thins}
+use Rattle.history.specs.Dead.{IsDead}
 use Rattle.tx_table.specs.Kept.{KeptTable, KeptSnapshot}
 use Rattle.tx_table.specs.Stands.{sees_by}
 use Rattle.row_store.specs.declared.stored.Stored.{Stored}
 use Rattle.row_store.specs.declared.TheConstants.{BYTES_LIMIT}
-use Rattle.row_store.specs.Kept.{KeptRows, blank, version_of, stored_at}
+use Rattle.row_store.specs.Kept.{KeptRows, blank, version_of, stored_at, listed_in}
 use Rattle.row_store.specs.Limits.{versions_bytes}
 
--- the store stands for the history
+-- the versions of a leaf, in order of birth
+abbrev pub born_in : History → ℕ → List Version
+born_in h l = filter (λ v. v.leaf.number == l) (versions h)
+
+-- the store stands for the history; each leaf lists its versions without some that are dead
 pub record StoreStands (kept : KeptRows) (h : History) : Type 0 where
   pub sound : AreRowsSound h
   pub births : map version_of kept.stored ≡ versions h
   pub ends : (k : ℕ) → (slice_index_or kept.stored k blank).ended ≡ last_end (row_events h) k
   pub leaves : kept.leaves ≡ leaf_count (row_events h)
   pub room : kept.room + versions_bytes (versions h) ≡ BYTES_LIMIT
+  pub lists : (l : ℕ) → l < kept.leaves → Thins (IsDead h) (born_in h l) (map version_of (listed_in kept.stored kept.listed l))
 
 -- the version that a call makes after the history
 abbrev pub newborn : History → LeafId → List Value → TxId → ℕ → Version

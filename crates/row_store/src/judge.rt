@@ -4,7 +4,7 @@ ghost use Rattle.pg_values.specs.Sets.{has};
 ghost use Rattle.history.specs.declared.version.Version.{Version};
 ghost use Rattle.row_store.specs.declared.stored.Stored.{Stored};
 ghost use Rattle.row_store.specs.Kept.{AreBelow, AreListed, no_id, stored_at, version_of};
-ghost use Rattle.row_store.specs.Judged.{IsFound, is_live_by, is_held_shown, refuses_by, all_kept_in, refusing_by, seeing_by};
+ghost use Rattle.row_store.specs.Judged.{IsFound, is_live_by, is_held_shown, refuses_by, all_listed_in, refusing_by, seeing_by};
 
 use crate::leaf::Leaf;
 use crate::scan::{is_shown, version_at};
@@ -52,9 +52,9 @@ pub(crate) fn judge_leaves<'s, T: RowTest>(
     requires known { All (λ leaf. leaf.number < length lists.now) leaves.now }
     requires listed { AreListed versions.now lists.now }
     requires suited { (v : Version) → Contains (map version_of versions.now) v → Contains leaves.now v.leaf → T.suits test.now v.row }
-    ensures refusing { MatchResult result (λ _. refusing_by txs.now session me.number (T.broken test.now) (all_kept_in versions.now leaves.now) ≡ None)
-        (λ row. (x : Stored) × (refusing_by txs.now session me.number (T.broken test.now) (all_kept_in versions.now leaves.now) ≡ Some x) × (row.now ≡ x.version.row)) }
-    ensures seen { IfOk result (λ others. (r : ℕ) → has others r ≡ seeing_by txs.now session (T.broken test.now) (all_kept_in versions.now leaves.now) r) }
+    ensures refusing { MatchResult result (λ _. refusing_by txs.now session me.number (T.broken test.now) (all_listed_in versions.now lists.now leaves.now) ≡ None)
+        (λ row. (x : Stored) × (refusing_by txs.now session me.number (T.broken test.now) (all_listed_in versions.now lists.now leaves.now) ≡ Some x) × (row.now ≡ x.version.row)) }
+    ensures seen { IfOk result (λ others. (r : ℕ) → has others r ≡ seeing_by txs.now session (T.broken test.now) (all_listed_in versions.now lists.now leaves.now) r) }
 {
     let mut others = SessionSet::empty();
     for leaf in leaves {

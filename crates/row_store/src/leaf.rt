@@ -1,14 +1,23 @@
 ghost use Rattle.std.specs.Prelude.{◌≡◌, [], ◌∷◌, ◌++◌, OnOk, OnErr};
+ghost use Rattle.history.specs.Thinned.{Thins};
+ghost use Rattle.row_store.specs.Dead.{IsDeadAt};
 
-use crate::slot::ShortId;
+use crate::dead::is_dead_at;
+use crate::slot::{ShortId, Slot};
 use pg_values::NoMemory;
 use std::alloc::Global;
 use std::marker::Model;
+use tx_table::TxTable;
 
-/// The numbers of the versions of a leaf, in order of birth.
+// Fewer versions are not gone through.
+const FEW: usize = 16;
+
+/// The numbers of the versions of a leaf, in order of birth, without some that are dead.
 #[derive(Debug, Drop)]
 pub struct Leaf {
     ids: Vec<ShortId>,
+    // How many versions the last vacuum left.
+    left: usize,
 }
 
 impl Model for Leaf {
@@ -26,6 +35,7 @@ impl Leaf {
     {
         Leaf {
             ids: Vec::new(alloc),
+            left: 0,
         }
     }
 
@@ -41,5 +51,17 @@ impl Leaf {
     {
         self.ids.push(id)?;
         Ok(())
+    }
+
+    /// Leaves out dead versions, once there are more than twice as many versions as were left the last
+    /// time.
+    pub fn vacuum(&mut self, txs: &TxTable, versions: &[Slot])
+        ensures { Thins (IsDeadAt txs.now versions.now) self.old self.new }
+    {
+        if self.ids.len() < FEW || self.ids.len() / 2 <= self.left {
+            return;
+        }
+        self.ids.retain(|id| !is_dead_at(txs, versions, *id));
+        self.left = self.ids.len();
     }
 }

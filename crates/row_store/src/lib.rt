@@ -6,6 +6,11 @@
 //! list of its versions' numbers. A `Slot` of 64 bytes keeps a version and its end. An end counts while
 //! its transaction is not aborted, so an abort changes nothing here, and the version stands again.
 //!
+//! A leaf's list leaves out versions that are dead, as VACUUM does with a table: those whose birth was
+//! aborted, or whose birth and end are committed, where no snapshot that is held shows them. It is gone
+//! through when a version comes and there are more than twice as many as were left the last time, so a
+//! scan looks at few versions more than somebody may see, and each birth pays for few.
+//!
 //! `scan` lends the rows of a leaf that a snapshot sees and writes the leaf into a `Trail`, so what a
 //! statement has read can be told. `newest` tells what became of one version. `judge` goes through all
 //! versions of leaves by a test, as ATTACH PARTITION does by the new bounds: a row that breaks it
@@ -13,6 +18,7 @@
 //! where only older snapshots of other sessions do, it tells which.
 #![tactic(auto)]
 
+mod dead;
 mod judge;
 mod leaf;
 mod newest;

@@ -2,10 +2,10 @@ ghost use Rattle.std.specs.Prelude.{◌≡◌, ◌<◌, ◌≤◌, [], ◌∷◌
 ghost use Rattle.std.specs.Iterator.{YieldsFirstBy, item_count};
 ghost use Rattle.row_store.specs.Told.{shown_row};
 ghost use Rattle.row_store.specs.Kept.{AreBelow, stored_at};
-ghost use Rattle.row_store.specs.Stands.{shows_by, rows_left, shown_stored};
+ghost use Rattle.row_store.specs.Stands.{sees_end_by, shows_by, rows_left, shown_stored};
 
 use crate::slot::{ShortId, Slot};
-use history::Fate;
+use history::{End, Fate};
 use pg_values::{Row, RowId};
 use std::marker::Model;
 use tx_table::{Snapshot, TxTable};
@@ -119,14 +119,19 @@ fn lend(stored: &Slot) -> SeenRow<'_>
 pub(crate) fn is_shown(txs: &TxTable, snap: &Snapshot, stored: &Slot) -> bool
     ensures { result ≡ shows_by txs.now snap.now stored.now }
 {
-    if !txs.sees(snap, stored.by(), stored.cmd()) {
-        return false;
-    }
-    match stored.ended() {
+    txs.sees(snap, stored.by(), stored.cmd()) && !sees_end(txs, snap, stored.ended())
+}
+
+// Whether the snapshot sees the end, where it counts.
+#[inline]
+pub(crate) fn sees_end(txs: &TxTable, snap: &Snapshot, ended: Option<End>) -> bool
+    ensures { result ≡ sees_end_by txs.now snap.now ended }
+{
+    match ended {
         Some(end) => match txs.fate(end.by) {
-            Fate::Aborted => true,
-            _ => !txs.sees(snap, end.by, end.cmd),
+            Fate::Aborted => false,
+            _ => txs.sees(snap, end.by, end.cmd),
         },
-        None => true,
+        None => false,
     }
 }

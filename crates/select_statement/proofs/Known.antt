@@ -88,7 +88,7 @@ pub leaves_stay : (old new : Stores) (ls : List Leaf) → new ≡ record old { l
 leaves_stay old new ls rest its = subst (λ x. AreThere x ls) (sym rest) its
 
 pub look_stays : (old new : Stores) (caller : Caller) (snap : KeptSnapshot) → new ≡ record old { locks = new.locks } → IsLookFor old caller snap → IsLookFor new caller snap
-look_stays old new caller snap rest its = subst (λ x. IsLookFor x caller snap) (sym rest) (record { stands = its.stands; past = its.past })
+look_stays old new caller snap rest its = subst (λ x. IsLookFor x caller snap) (sym rest) (record { stands = its.stands; past = its.past; read = its.read })
 
 pub known_stays : (old new : Stores) (s x : ℕ) → new ≡ record old { locks = new.locks } → IsKnownTo old s x → IsKnownTo new s x
 known_stays old new s x rest its = subst (λ y. IsKnownTo y s x) (sym rest) (record { made = its.made; own = its.own })

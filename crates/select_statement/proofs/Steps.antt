@@ -72,7 +72,7 @@ read_for_it r now stores caller args m plan snap n before count fresh reads h s 
     subst (λ ls. IsRead r now (select_course (caller.sessions - 1) args m (shown h s) plan ls)) fresh counted
 
 pub lent : (stores : Stores) (caller : Caller) (snap : KeptSnapshot) (h : History) → IsLookFor stores caller snap → Stands stores h → AreLent stores.txs stores.rows snap h (look_of h caller.session caller.cmd)
-lent stores caller snap h look stands = record { table = stands.all.txs; rows = stands.all.rows; past = look.past h stands.all.txs; snapshot = look.stands h stands.all.txs }
+lent stores caller snap h look stands = record { table = stands.all.txs; rows = stands.all.rows; read = look.read h stands.all.txs stands.good; snapshot = look.stands h stands.all.txs }
 
 -- the answer with what was read
 is_told : (m : SelectMeant) (w : Course) (a : Answered) → answer_of m w ≡ Ok a.answer → a.trail.leaves ≡ reads_of w → told_of m w ≡ Ok (told_by a)

@@ -3,6 +3,7 @@ use Rattle.std.specs.Prelude.{◌<◌, All, List, map}
 use Rattle.pg_values.specs.declared.ids.TableNo.{TableNo}
 use Rattle.history.specs.Transactions.{IsPast}
 use Rattle.history.specs.History.{History, tx_events}
+use Rattle.history.specs.Dead.{MayRead}
 use Rattle.tx_table.specs.Kept.{KeptSnapshot}
 use Rattle.tx_table.specs.Stands.{TableStands, SnapshotStands}
 use Rattle.row_router.specs.Trees.{TableTree, leaves}
@@ -10,6 +11,7 @@ use Rattle.cond_logic.specs.Tables.{Leaf}
 use Rattle.plan_tree.specs.Kept.{id_of}
 use Rattle.plan_tree.specs.Prunable.{CanPrune}
 use Rattle.stores.specs.Events.{look_of}
+use Rattle.stores.specs.Good.{IsGood}
 use Rattle.stores.specs.declared.stores.Stores.{Stores}
 use Rattle.statement_steps.specs.declared.caller.Caller.{Caller}
 use Rattle.statement_steps.specs.Known.{IsKnownTo}
@@ -35,3 +37,4 @@ pub record IsTreeFor (stores : Stores) (caller : Caller) (tree : TableTree) : Ty
 pub record IsLookFor (stores : Stores) (caller : Caller) (snap : KeptSnapshot) : Type 0 where
   pub stands : (h : History) → TableStands stores.txs h → SnapshotStands snap (look_of h caller.session caller.cmd)
   pub past : (h : History) → TableStands stores.txs h → IsPast (look_of h caller.session caller.cmd).past (tx_events h)
+  pub read : (h : History) → TableStands stores.txs h → IsGood h → MayRead (look_of h caller.session caller.cmd) h

@@ -8,6 +8,10 @@ use Rattle.history.specs.Transactions.{TxEvents, TxEvent, TxBegan, next_tx, open
 use Rattle.history.specs.Snapshots.{SnapshotEvent, TakenSnapshot, SnapshotHeld, SnapshotDropped, held_by}
 use Rattle.history.specs.Locks.{LockEvent, LockGot, LocksGivenUp, SnapshotGone, WaitBegan}
 use Rattle.history.specs.History.{History, TxChange, SnapshotChange, LockChange, tx_events, snapshot_events, held_or_fresh}
+use Rattle.history.specs.declared.version.Version.{Version}
+use Rattle.history.specs.Legal.{IsHoldSound}
+use Rattle.history.specs.Dead.{IsDead, MayRead}
+use Rattle.history.proofs.Dead.{dead_after_tx, dead_after_hold, dead_after_drop}
 use Rattle.history.proofs.Open.{open_own}
 use Rattle.tx_table.specs.Kept.{KeptTable, KeptSnapshot, after_hold}
 use Rattle.tx_table.specs.Stands.{TableStands, SnapshotStands, HeldStands, after_end}
@@ -21,6 +25,7 @@ use Rattle.stores.specs.Events.{tx_in, begun, let_go, withdrawn, ended, with_com
 use Rattle.stores.specs.Good.{IsGood}
 use Rattle.stores.specs.Numbers.{IsAt}
 use Rattle.stores.specs.Stand.{AllStand, Stands, Adds, AddsGood}
+use Rattle.stores.proofs.Commands.{timely, look_is_read}
 use Rattle.stores.proofs.Events.{tx_good, held_good}
 use Rattle.stores.proofs.Standing.{rows_stand, catalogue_stands, catalogue_stays}
 
@@ -29,15 +34,15 @@ use Rattle.stores.proofs.Standing.{rows_stand, catalogue_stands, catalogue_stays
 after_tx : (old : Stores) (txs : KeptTable) (e : TxEvent) (h : History) → TableStands txs (TxChange e ∷ h) → AllStand old h → AllStand (record old { txs = txs }) (TxChange e ∷ h)
 after_tx old txs e h new st = record {
   txs = new;
-  rows = rows_stand old.rows h (TxChange e ∷ h) refl st.rows.sound st.rows;
+  rows = rows_stand old.rows h (TxChange e ∷ h) refl st.rows.sound (λ v dead. dead_after_tx e h v new.sound dead) st.rows;
   catalog = catalogue_stays old.catalog e h new.sound st.catalog;
   locks = st.locks;
 }
 
-after_snapshots : (old : Stores) (txs : KeptTable) (e : SnapshotEvent) (h : History) → TableStands txs (SnapshotChange e ∷ h) → AllStand old h → AllStand (record old { txs = txs }) (SnapshotChange e ∷ h)
-after_snapshots old txs e h new st = record {
+after_snapshots : (old : Stores) (txs : KeptTable) (e : SnapshotEvent) (h : History) → ((v : Version) → IsDead h v → IsDead (SnapshotChange e ∷ h) v) → TableStands txs (SnapshotChange e ∷ h) → AllStand old h → AllStand (record old { txs = txs }) (SnapshotChange e ∷ h)
+after_snapshots old txs e h dead new st = record {
   txs = new;
-  rows = rows_stand old.rows h (SnapshotChange e ∷ h) refl st.rows.sound st.rows;
+  rows = rows_stand old.rows h (SnapshotChange e ∷ h) refl st.rows.sound dead st.rows;
   catalog = catalogue_stands old.catalog h (SnapshotChange e ∷ h) refl refl st.catalog.sound st.catalog;
   locks = st.locks;
 }
@@ -45,7 +50,7 @@ after_snapshots old txs e h new st = record {
 after_locks : (old : Stores) (locks : KeptLocks) (e : LockEvent) (h : History) → LocksStand locks (LockChange e ∷ h) → AllStand old h → AllStand (record old { locks = locks }) (LockChange e ∷ h)
 after_locks old locks e h new st = record {
   txs = st.txs;
-  rows = rows_stand old.rows h (LockChange e ∷ h) refl st.rows.sound st.rows;
+  rows = rows_stand old.rows h (LockChange e ∷ h) refl st.rows.sound (λ v dead. dead) st.rows;
   catalog = catalogue_stands old.catalog h (LockChange e ∷ h) refl refl st.catalog.sound st.catalog;
   locks = new;
 }
@@ -75,7 +80,7 @@ begun_adds_good old txs s (Err e) added number = tt
 pub let_go_stand : (old : Stores) (txs : KeptTable) (locks : KeptLocks) (s : ℕ) → ((h : History) → TableStands old.txs h → TableStands txs (SnapshotChange (SnapshotDropped s) ∷ h)) → ((h : History) → LocksStand old.locks h → LocksStand locks (LockChange (SnapshotGone s) ∷ h))
     → (h : History) → AllStand old h → AllStand (record old { txs = txs; locks = locks }) (let_go s ++ h)
 let_go_stand old txs locks s dropped gone h st =
-    after_locks (record old { txs = txs }) locks (SnapshotGone s) (SnapshotChange (SnapshotDropped s) ∷ h) (gone h st.locks) (after_snapshots old txs (SnapshotDropped s) h (dropped h st.txs) st)
+    after_locks (record old { txs = txs }) locks (SnapshotGone s) (SnapshotChange (SnapshotDropped s) ∷ h) (gone h st.locks) (after_snapshots old txs (SnapshotDropped s) h (λ v dead. dead_after_drop s h v dead) (dropped h st.txs) st)
 
 -- the snapshot of a look was taken at some place
 look_past : (k : Option KeptSnapshot) (o : Option TakenSnapshot) (txs : TxEvents) (s cmd : ℕ) → HeldStands k o txs → IsPast (with_command cmd (held_or_fresh o txs s)).past txs
@@ -86,23 +91,38 @@ look_past (Some k) (Some old) txs s cmd st = st.1
 pub look_is_past : (k : KeptTable) (h : History) (s cmd : ℕ) → TableStands k h → IsPast (look_of h s cmd).past (tx_events h)
 look_is_past k h s cmd st = look_past (slice_index_or k.held s None) (held_by (snapshot_events h) s) (tx_events h) s cmd (st.held s)
 
--- where none is held
-holding_stand : (old : Stores) (txs : KeptTable) (s : ℕ) (look : TakenSnapshot) (h : History) (k : Option KeptSnapshot) (o : Option TakenSnapshot) → k ≡ None → HeldStands k o (tx_events h) → TableStands txs (SnapshotChange (SnapshotHeld s look) ∷ h) → AllStand old h → AllStand (record old { txs = txs }) (held_first o s look ++ h)
-holding_stand old txs s look h k None none st new all = after_snapshots old txs (SnapshotHeld s look) h new all
-holding_stand old txs s look h None (Some t) none st new all = absurd st
-holding_stand old txs s look h (Some x) (Some t) none st new all = let wrong : Some x ≡ None = none in absurd (cc)
-
-pub held_stand : (old : Stores) (txs : KeptTable) (s cmd : ℕ) (snap : KeptSnapshot) → slice_index_or old.txs.held s None ≡ None → ((h : History) → TableStands old.txs h → SnapshotStands snap (look_of h s cmd))
-    → ((h : History) (t : TakenSnapshot) → TableStands old.txs h → IsPast t.past (tx_events h) → SnapshotStands snap t → TableStands txs (SnapshotChange (SnapshotHeld s t) ∷ h))
-    → (h : History) → AllStand old h → AllStand (record old { txs = txs }) (held h s cmd ++ h)
-held_stand old txs s cmd snap none stands added h st =
-    holding_stand old txs s (look_of h s cmd) h (slice_index_or old.txs.held s None) (held_by (snapshot_events h) s) none (st.txs.held s)
-    (added h (look_of h s cmd) st.txs (look_is_past old.txs h s cmd st.txs) (stands h st.txs)) st
-
 -- the session has a transaction
 open_told : (o p : Option ℕ) → IsSome o → o ≡ p → (t : ℕ) × (p ≡ Some t)
 open_told None p some same = let wrong : false ≡ true = some in absurd (cc)
 open_told (Some t) p some same = (t, sym same)
+
+-- the session may read under it
+pub look_read : (txs : KeptTable) (h : History) (s cmd : ℕ) → IsSome (slice_index_or txs.current s None) → TableStands txs h → IsGood h → MayRead (look_of h s cmd) h
+look_read txs h s cmd some st good =
+    let its = open_told (slice_index_or txs.current s None) (open_of (tx_events h) s) some (st.current s) in
+    look_is_read h s its.0 cmd good its.1
+
+-- where none is held, the look is of the session's transaction
+look_own : (k : Option KeptSnapshot) (o : Option TakenSnapshot) (txs : TxEvents) (s cmd t : ℕ) → k ≡ None → HeldStands k o txs → open_of txs s ≡ Some t → open_of txs s ≡ Some (with_command cmd (held_or_fresh o txs s)).tx
+look_own k None txs s cmd t none st own = own ∙ sym (ap (λ (o : Option ℕ). Some (unwrap_or o 0)) own)
+look_own None (Some old) txs s cmd t none st own = absurd st
+look_own (Some x) (Some old) txs s cmd t none st own = let wrong : Some x ≡ None = none in absurd (cc)
+
+holding_stand : (old : Stores) (txs : KeptTable) (s : ℕ) (look : TakenSnapshot) (h : History) (k : Option KeptSnapshot) (o : Option TakenSnapshot) → IsHoldSound s look h → k ≡ None → HeldStands k o (tx_events h) → TableStands txs (SnapshotChange (SnapshotHeld s look) ∷ h) → AllStand old h → AllStand (record old { txs = txs }) (held_first o s look ++ h)
+holding_stand old txs s look h k None hold none st new all = after_snapshots old txs (SnapshotHeld s look) h (λ v dead. dead_after_hold s look h v all.txs.sound hold dead) new all
+holding_stand old txs s look h None (Some t) hold none st new all = absurd st
+holding_stand old txs s look h (Some x) (Some t) hold none st new all = let wrong : Some x ≡ None = none in absurd (cc)
+
+pub held_stand : (old : Stores) (txs : KeptTable) (s cmd : ℕ) (snap : KeptSnapshot) → IsSome (slice_index_or old.txs.current s None) → slice_index_or old.txs.held s None ≡ None → ((h : History) → TableStands old.txs h → SnapshotStands snap (look_of h s cmd))
+    → ((h : History) (t : TakenSnapshot) → TableStands old.txs h → IsPast t.past (tx_events h) → SnapshotStands snap t → TableStands txs (SnapshotChange (SnapshotHeld s t) ∷ h))
+    → (h : History) → AllStand old h → AllStand (record old { txs = txs }) (held h s cmd ++ h)
+held_stand old txs s cmd snap some none stands added h st =
+    let k = slice_index_or old.txs.held s None in
+    let o = held_by (snapshot_events h) s in
+    let its = open_told (slice_index_or old.txs.current s None) (open_of (tx_events h) s) some (st.txs.current s) in
+    let hold : IsHoldSound s (look_of h s cmd) h = record { own = look_own k o (tx_events h) s cmd its.0 none (st.txs.held s) its.1; timely = timely o (tx_events h) s cmd } in
+    holding_stand old txs s (look_of h s cmd) h k o hold none (st.txs.held s)
+    (added h (look_of h s cmd) st.txs (look_is_past old.txs h s cmd st.txs) (stands h st.txs)) st
 
 pub held_stays_good : (txs : KeptTable) (s cmd : ℕ) (h : History) → IsSome (slice_index_or txs.current s None) → TableStands txs h → IsAt h s cmd → IsGood h → IsGood (held h s cmd ++ h)
 held_stays_good txs s cmd h some st at good =

@@ -6,6 +6,7 @@ use Rattle.history.specs.Snapshots.{TakenSnapshot, SnapshotHeld, SnapshotDropped
 use Rattle.history.specs.Rows.{LeafAdded, RowBorn, RowEnded}
 use Rattle.history.specs.Catalogue.{catalogue_command}
 use Rattle.history.specs.History.{Event, History, TxChange, SnapshotChange, RowChange, LockChange, CatalogueChange, tx_events, snapshot_events, row_events, held_or_fresh}
+use Rattle.history.specs.Dead.{MayRead}
 use Rattle.history.specs.Legal.{IsTimely, ChangedBefore, MayHold, command_of, IsNotAfter, IsInOrder}
 use Rattle.stores.specs.Events.{begun, look_of, with_command}
 use Rattle.stores.specs.Good.{IsActing, IsGood}
@@ -108,7 +109,7 @@ changed_before t cmd (RowChange (RowBorn v) ∷ h) is = (All-head (IsBefore t cm
 changed_before t cmd (RowChange (RowEnded k e) ∷ h) is = (All-head (IsBefore t cmd) (RowChange (RowEnded k e)) h is, changed_before t cmd h (All-tail (IsBefore t cmd) (RowChange (RowEnded k e)) h is))
 
 -- the snapshot of a look is timely, and of the session's transaction
-timely : (o : Option TakenSnapshot) (txs : TxEvents) (session cmd : ℕ) → IsTimely o txs (with_command cmd (held_or_fresh o txs session))
+pub timely : (o : Option TakenSnapshot) (txs : TxEvents) (session cmd : ℕ) → IsTimely o txs (with_command cmd (held_or_fresh o txs session))
 timely None txs session cmd = refl
 timely (Some s) txs session cmd = inr (refl, refl)
 
@@ -118,6 +119,11 @@ own_tx txs session t (Some s) own is = let e : Some s.tx ≡ Some t = sym (is s 
 
 pub look_is_own : (h : History) (session t cmd : ℕ) → IsGood h → open_of (tx_events h) session ≡ Some t → (look_of h session cmd).tx ≡ t
 look_is_own h session t cmd good own = own_tx (tx_events h) session t (held_by (snapshot_events h) session) own (λ s e. held_own h session s good e)
+
+-- so the session may read under it
+pub look_is_read : (h : History) (session t cmd : ℕ) → IsGood h → open_of (tx_events h) session ≡ Some t → MayRead (look_of h session cmd) h
+look_is_read h session t cmd good own =
+    (session, record { own = own ∙ ap (λ z. Some z) (sym (look_is_own h session t cmd good own)); timely = timely (held_by (snapshot_events h) session) (tx_events h) session cmd })
 
 pub look_may_be_held : (h : History) (session t cmd : ℕ) → IsGood h → IsAt h session cmd → open_of (tx_events h) session ≡ Some t → MayHold (SnapshotHeld session (look_of h session cmd)) h
 look_may_be_held h session t cmd good at own =

@@ -1,15 +1,19 @@
 -- What did not change stands for a history with no event of its own.
-use Rattle.std.proofs.Common.{◌≡◌, ℕ, ◌+◌, ◌||◌, refl, sym, ap, subst, ◌∙◌, ◌∷◌, length, map, get_or}
+use Rattle.std.proofs.Common.{◌≡◌, ℕ, ◌+◌, ◌||◌, ◌==◌, refl, sym, ap, subst, ◌∙◌, ◌∷◌, List, length, map, filter, get_or}
 use Rattle.history.specs.Rows.{RowEvents, births, last_end, leaf_count}
 use Rattle.history.specs.RowsSound.{AreRowsSound}
+use Rattle.history.specs.declared.version.Version.{Version}
+use Rattle.history.specs.Dead.{IsDead}
+use Rattle.history.specs.Thinned as thinned
+use Rattle.history.proofs.Thinned as thinned_laws
 use Rattle.history.specs.Catalogue.{CatalogueEvents, tables_made, entries_added, checks_kept, drops, entry_ends, marks, newest_of}
 use Rattle.history.specs.declared.catalogue.Entry.{Entry}
 use Rattle.history.specs.Places.{AreCatalogueSound}
 use Rattle.history.specs.History.{History, TxChange, tx_events, row_events, catalogue_events}
 use Rattle.history.specs.Transactions.{TxEvent, TxEvents, IsSound, was_aborted}
-use Rattle.row_store.specs.Kept.{KeptRows}
+use Rattle.row_store.specs.Kept.{KeptRows, version_of, listed_in}
 use Rattle.row_store.specs.Limits.{versions_bytes}
-use Rattle.row_store.specs.Stands.{StoreStands}
+use Rattle.row_store.specs.Stands.{StoreStands, born_in}
 use Rattle.part_catalog.specs.Forgotten.{IsGone, Thins, is_gone, is_over}
 use Rattle.part_catalog.specs.Kept.{KeptCatalogue, entry_in, no_entry}
 use Rattle.part_catalog.specs.Stands.{CatalogueStands}
@@ -20,13 +24,17 @@ use Rattle.stores.specs.declared.stores.Stores.{Stores}
 use Rattle.stores.specs.Stand.{Stands}
 use Rattle.stores.proofs.Goodness.{legal_of, permitted_of}
 
-pub rows_stand : (k : KeptRows) (h g : History) → row_events g ≡ row_events h → AreRowsSound g → StoreStands k h → StoreStands k g
-rows_stand k h g same sound st = record {
+-- with no event of rows, where what is dead stays dead
+pub rows_stand : (k : KeptRows) (h g : History) → row_events g ≡ row_events h → AreRowsSound g → ((v : Version) → IsDead h v → IsDead g v) → StoreStands k h → StoreStands k g
+rows_stand k h g same sound dead st = record {
   sound = sound;
   births = st.births ∙ sym (ap births same);
   ends = λ i. st.ends i ∙ sym (ap (λ (r : RowEvents). last_end r i) same);
   leaves = st.leaves ∙ sym (ap leaf_count same);
   room = ap (λ (r : RowEvents). k.room + versions_bytes (births r)) same ∙ st.room;
+  lists = λ l lt.
+      let list : List Version = map version_of (listed_in k.stored k.listed l) in
+      subst (λ (r : RowEvents). thinned.Thins (IsDead g) (filter (λ (v : Version). v.leaf.number == l) (births r)) list) (sym same) (thinned_laws.thin_weaker (IsDead h) (IsDead g) dead (born_in h l) list (st.lists l lt));
 }
 
 -- with no event of the catalogue, where what is gone stays gone

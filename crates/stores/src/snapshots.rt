@@ -1,10 +1,12 @@
 ghost use Rattle.std.specs.Prelude.{◌≡◌, ◌++◌, ℕ, IfOk, OnOk, OnErr, None, slice_index_or};
 ghost use Rattle.history.specs.Transactions.{IsPast};
 ghost use Rattle.history.specs.Locks.{after_snapshot};
+ghost use Rattle.history.specs.Dead.{MayRead};
 ghost use Rattle.history.specs.History.{History, tx_events};
 ghost use Rattle.tx_table.specs.Kept.{with_number, given_kept, after_hold};
 ghost use Rattle.tx_table.specs.Stands.{TableStands, SnapshotStands};
 ghost use Rattle.stores.specs.Events.{look_of, held, let_go};
+ghost use Rattle.stores.specs.Good.{IsGood};
 ghost use Rattle.stores.specs.Numbers.{IsAt};
 ghost use Rattle.stores.specs.Stand.{Stands, Adds, AddsGood, HasSeat, HasOpen, IsSameSize};
 
@@ -20,6 +22,7 @@ impl Stores {
         requires { HasOpen self.now session }
         ensures stands { IfOk result (λ snap. (h : History) → TableStands self.now.txs h → SnapshotStands snap (look_of h session cmd)) }
         ensures past { (h : History) → TableStands self.now.txs h → IsPast (look_of h session cmd).past (tx_events h) }
+        ensures read { (h : History) → TableStands self.now.txs h → IsGood h → MayRead (look_of h session cmd) h }
         ensures kept { IfOk result (λ snap. snap ≡ with_number cmd (given_kept (slice_index_or self.now.txs.held session None) self.now.txs session)) }
     {
         number_is_set();

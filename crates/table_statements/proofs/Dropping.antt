@@ -96,7 +96,7 @@ rows_stay rows (RowChange e ∷ es) h each st = absurd each.0
 rows_stay rows (LockChange e ∷ es) h each st = absurd each.0
 rows_stay rows (CatalogueChange e ∷ es) h each st =
     let rest = rows_stay rows es h each.1 st in
-    record { sound = rest.sound; births = rest.births; ends = rest.ends; leaves = rest.leaves; room = rest.room }
+    record { sound = rest.sound; births = rest.births; ends = rest.ends; leaves = rest.leaves; room = rest.room; lists = rest.lists }
 
 -- so do the tables that were made
 tables_stay : (es : List Event) (h : History) → Each IsEnding es → tables_made (catalogue_events (es ++ h)) ≡ tables_made (catalogue_events h)

@@ -1,8 +1,8 @@
 use Rattle.std.proofs.Common.{◌≡◌, ◌++◌}
 use Rattle.std.specs.Prelude.{All}
-use Rattle.history.specs.History.{History, tx_events}
+use Rattle.history.specs.History.{History}
 use Rattle.history.specs.Snapshots.{TakenSnapshot}
-use Rattle.history.specs.Transactions.{IsPast}
+use Rattle.history.specs.Dead.{MayRead}
 use Rattle.tx_table.specs.Stands.{TableStands, SnapshotStands}
 use Rattle.row_store.specs.Stands.{StoreStands}
 use Rattle.cond_logic.specs.Asked.{maybe_cond}
@@ -14,9 +14,9 @@ pub returns-clause-are : goal.returns-clause-are
 returns-clause-are c =
     let condition = maybe_cond c.args.condition.now in
     ok_more (c.push_all_taken.new.found.items ≡ c.args.found.now.items ++ taken condition c.args.leaf c.in_ok-scan.scan)
-    ((h : History) (s : TakenSnapshot) → TableStands c.args.txs.now h → StoreStands c.args.store.now h → IsPast s.past (tx_events h) → SnapshotStands c.args.snap.now s → c.push_all_taken.new.found.items ≡ c.args.found.now.items ++ targets_in h s condition c.args.leaf)
+    ((h : History) (s : TakenSnapshot) → TableStands c.args.txs.now h → StoreStands c.args.store.now h → MayRead s h → SnapshotStands c.args.snap.now s → c.push_all_taken.new.found.items ≡ c.args.found.now.items ++ targets_in h s condition c.args.leaf)
     c.push_all_taken.result
-    (λ e h s txs st past snap. taken_targets condition h s c.args.leaf c.args.found.now.items c.push_all_taken.new.found.items c.in_ok-scan.scan e (c.in_ok-scan.ensures.rows h s txs st past snap))
+    (λ e h s txs st may snap. taken_targets condition h s c.args.leaf c.args.found.now.items c.push_all_taken.new.found.items c.in_ok-scan.scan e (c.in_ok-scan.ensures.rows h s txs st may snap))
     c.push_all_taken.ensures
 
 pub returns-clause-there : goal.returns-clause-there

@@ -22,5 +22,12 @@ returns-clause-there c =
     let g = found_of c.args.gathered.now in
     let s = look_of h c.args.caller.session c.args.caller.cmd in
     IfOk-weaker c.find_targets.result _ _ (λ found is.
-    let told = is h s stands.all.txs stands.all.rows (c.in_ok-snap.ensures.past h stands.all.txs) (c.in_ok-snap.ensures.stands h stands.all.txs) in
+    let told = is h s stands.all.txs stands.all.rows (c.in_ok-snap.ensures.read h stands.all.txs stands.good) (c.in_ok-snap.ensures.stands h stands.all.txs) in
     subst (All (IsTargetIn c.args.stores.now.rows g)) (sym (told ∙ ap (targets h s g.asked.condition) c.deref.ensures.value)) (all_targets c.args.stores.now.rows g h s g.asked.condition stands.all.rows)) c.find_targets.ensures.are
+
+pub returns-clause-are : goal.returns-clause-are
+returns-clause-are c =
+    let g = found_of c.args.gathered.now in
+    IfOk-weaker c.find_targets.result _ _ (λ found is h stands.
+    let s = look_of h c.args.caller.session c.args.caller.cmd in
+    is h s stands.all.txs stands.all.rows (c.in_ok-snap.ensures.read h stands.all.txs stands.good) (c.in_ok-snap.ensures.stands h stands.all.txs) ∙ ap (targets h s g.asked.condition) c.deref.ensures.value) c.find_targets.ensures.are

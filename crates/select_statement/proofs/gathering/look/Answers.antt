@@ -8,4 +8,4 @@ use Rattle.select_statement.proofs.gathering.look.Goals as goal
 pub returns : goal.returns
 returns c =
     IfOk-weaker c.look.result (λ snap. (h : History) → TableStands c.args.stores.now.txs h → SnapshotStands snap (look_of h c.args.caller.session c.args.caller.cmd)) (λ snap. IsLookFor c.args.stores.now c.args.caller snap)
-    (λ snap stands. record { stands = stands; past = c.look.ensures.past }) c.look.ensures.stands
+    (λ snap stands. record { stands = stands; past = c.look.ensures.past; read = c.look.ensures.read }) c.look.ensures.stands

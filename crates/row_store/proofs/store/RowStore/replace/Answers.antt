@@ -8,7 +8,7 @@ pub returns-in-Ok-clause-added : goal.returns-in-Ok-clause-added
 returns-in-Ok-clause-added c h txs st =
     let n : c.len.result ≡ length c.self.inside.versions.items = grind (arith, common_steps) in
     let m : c.len.result ≡ length c.args.self.now.stored = n ∙ ap (λ (k : KeptRows). length k.stored) c.self.view_is in
-    replaced_added c.args.txs.now c.args.self.now c.put.new.self c.set_end.new.self h c.args.id.number c.len.result c.leaf_of-leaf.result _ c.args.row c.args.by c.args.cmd c.leaf_of-leaf.ensures.is refl m c.in-Ok.ensures.kept c.set_end.ensures c.leaf_of-leaf.ensures.known c.requires.known (c.requires.standing h txs st) c.requires.runs c.requires.seen txs st
+    replaced_added c.args.txs.now c.args.self.now c.put.new.self c.set_end.new.self h c.args.id.number c.len.result c.leaf_of-leaf.result _ c.args.row c.args.by c.args.cmd c.leaf_of-leaf.ensures.is refl m c.in-Ok.ensures.kept c.set_end.ensures c.requires.known (c.requires.standing h txs st) c.requires.runs c.requires.seen txs st (c.in-Ok.ensures.added h txs st)
 
 pub set_end-requires-clause-there : goal.set_end-requires-clause-there
 set_end-requires-clause-there c =

@@ -11,4 +11,4 @@ invariant_of-self c =
     let lt = subst K (sym c.self.view_is) c.requires.known in
     let same = at_any _ c.args.id.number c.index_mut-stored.result.now lt c.index_mut-stored.ensures.value in
     let kept = ap (λ (x : Stored). x.version) c.end.ensures ∙ ap (λ (x : Stored). x.version) same in
-    ended_listed _ _ c.args.id.number c.end.new.self lt kept (set_known _ _ _ c.args.self.now c.args.id.number _ _ c.args.end c.self.view_is c.end.ensures same c.requires.there) c.self.invariant
+    ended_listed _ _ c.args.id.number c.end.new.self lt kept (set_known _ _ _ _ c.args.self.now c.args.id.number _ _ c.args.end c.self.view_is c.end.ensures same c.requires.there) c.self.invariant
