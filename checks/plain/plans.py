@@ -68,20 +68,36 @@ def counted(rows, loops=1):
     return f" (rows={rows} loops={loops})" if loops else " (never executed)"
 
 
-def item_lines(plan, naming, item, depth, analyzes):
-    def told(*of):
-        return counted(plan.counts["rows", item, *of], plan.counts["loops", item, *of]) if analyzes else ""
+def scan_lines(plan, naming, item, leaves, depth, analyzes):
     own = [atom for atom in plan.placed[item] if not items_of(atom) - {item}]
+    for leaf in leaves:
+        told = counted(plan.counts["rows", item, leaf], plan.counts["loops", item, leaf]) if analyzes else ""
+        yield from node(depth, f"Seq Scan on {leaf.name}{naming.alias(item)}", details(naming, "Filter", own), told)
+
+
+def item_lines(plan, naming, item, depth, analyzes):
     leaves = plan.leaves[item]
+    told = counted(plan.counts["rows", item], plan.counts["loops", item]) if analyzes else ""
 
     def scans(depth):
-        for leaf in leaves:
-            yield from node(depth, f"Seq Scan on {leaf.name}{naming.alias(item)}", details(naming, "Filter", own), told(leaf))
+        return scan_lines(plan, naming, item, leaves, depth, analyzes)
     planned = len(plan.planned[item])
     if planned == 1 and not (plan.prunes_beside(item) or plan.prunes and plan.has_params(item)):
         return list(scans(depth))
     removed = [f"Subplans Removed: {planned - len(leaves)}"] if planned > len(leaves) else []
-    return node(depth, "Append", removed, told()) + list(scans(depth + 1))
+    return node(depth, "Append", removed, told) + list(scans(depth + 1))
+
+
+def ordered_lines(plan, naming, parts, keys, depth, analyzes):
+    """An Ordered Append: each part is sorted by itself."""
+    lines = node(depth, "Ordered Append", (), counted(plan.counts["rows"]) if analyzes else "")
+    for part in parts:
+        told = counted(sum(plan.counts["rows", 0, leaf] for leaf in part)) if analyzes else ""
+        lines += node(depth + 1, "Sort", keys, told)
+        if len(part) > 1:
+            lines += node(depth + 2, "Append", (), told)
+        lines += scan_lines(plan, naming, 0, part, depth + (2 if len(part) == 1 else 3), analyzes)
+    return lines
 
 
 def joined(plan, naming, count, depth, analyzes):
@@ -96,14 +112,18 @@ def joined(plan, naming, count, depth, analyzes):
     return lines + joined(plan, naming, last, depth + 1, analyzes) + item_lines(plan, naming, last, depth + 1, analyzes)
 
 
-def plan_lines(plan, naming, keys, is_cut, analyzes=False):
-    """The lines of a plan; keys are the texts of the keys of ORDER BY. Where it was run, each node tells its rows and loops."""
+def plan_lines(plan, naming, keys, parts, is_cut, analyzes=False):
+    """The lines of a plan; keys are the texts of the keys of ORDER BY, and parts what is sorted by itself. Where it was run, each node
+    tells its rows and loops."""
     lines, depth = [], 0
     rows, cut = (counted(plan.counts[name]) if analyzes else "" for name in ("rows", "cut"))
     if is_cut:
         lines, depth = node(0, "Limit", (), cut), 1
+    sorted_by = ["Sort Key: " + ", ".join(keys)]
+    if parts:
+        return lines + ordered_lines(plan, naming, parts, sorted_by, depth, analyzes)
     if keys:
-        lines += node(depth, "Sort", ["Sort Key: " + ", ".join(keys)], rows)
+        lines += node(depth, "Sort", sorted_by, rows)
         depth += 1
     if plan.is_empty():
         return lines + node(depth, "Result", ["One-Time Filter: false"], rows)

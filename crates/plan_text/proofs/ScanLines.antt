@@ -1,19 +1,22 @@
 -- The scans among the lines of a plan.
-use Rattle.std.proofs.Common.{◌≡◌, ℕ, zero, suc, ◌+◌, ◌-◌, ◌*◌, ◌==◌, Bool, true, false, if◌then◌else◌, List, [], ◌∷◌, ◌++◌, map, replicate, refl, sym, ap, ◌∙◌, append-nil, append_assoc}
+use Rattle.std.proofs.Common.{◌≡◌, ℕ, zero, suc, ◌+◌, ◌-◌, ◌*◌, ◌==◌, ◌&&◌, ◌||◌, arith, length, Bool, true, false, if◌then◌else◌, List, [], ◌∷◌, ◌++◌, map, replicate, refl, sym, ap, ◌∙◌, append-nil, append_assoc}
 use Rattle.std.specs.Prelude.{None, codes, decimal}
-use Rattle.std.specs.List.{flat_map}
+use Rattle.std.specs.List.{flat_map, list_any}
+use Rattle.std.proofs.lemmas.List.{map-append}
 use Rattle.std.proofs.lemmas.List.Concat.{flat_map-append}
 use Rattle.cond_logic.specs.declared.select.SortKey.{SortKey}
-use Rattle.cond_logic.specs.Asked.{OutputTree}
+use Rattle.cond_logic.specs.Asked.{OutputTree, SelectMeant}
 use Rattle.cond_logic.specs.Tables.{Leaf}
-use Rattle.plan_tree.specs.Plans.{PlannedItem, Planned, is_empty, scan_conjuncts, hash_conds, join_filter}
+use Rattle.plan_tree.specs.OrderedAppends.{parts_joined, sorted_parts}
+use Rattle.plan_tree.specs.Plans.{PlannedItem, Planned, is_none, keeps_none, is_empty, scan_conjuncts, hash_conds, join_filter}
 use Rattle.plan_tree.specs.declared.join_kind.JoinKind.{JoinKind}
 use Rattle.plan_tree.specs.declared.join_kind.JoinKind.TheVariants.{NestedLoop, HashJoin}
+use Rattle.plan_tree.proofs.OrderedParts.{AreAll, parts_are_all}
 use Rattle.plan_text.specs.declared.named_item.NamedItem.{NamedItem}
 use Rattle.plan_text.specs.Conditions.{several}
 use Rattle.plan_text.specs.Names.{alias_behind}
-use Rattle.plan_text.specs.Nodes.{Node, arrow, detail_line, alone, over, both}
-use Rattle.plan_text.specs.Plans.{Counts, detail, filters, join_details, scan_text, scan, scans, is_one_scan, removed_detail, item_scans, item, join_text, join, joined, result, items, rows, sort_detail, sorted, limited}
+use Rattle.plan_text.specs.Nodes.{Node, arrow, detail_line, alone, over, each, both}
+use Rattle.plan_text.specs.Plans.{Counts, detail, filters, join_details, scan_text, scan, scans, is_one_scan, removed_detail, item_scans, item, join_text, join, joined, result, items, rows, sort_detail, sorted, part_scans, sorted_part, ordered_append, in_order, limited}
 use Rattle.plan_text.specs.ScanLines.{unspaced, following, first_or, behind_arrow, scan_in, item_leaves, plan_leaves, ScansAreOfTheLeaves}
 
 -- ---- a line
@@ -114,6 +117,9 @@ result_is = record { is_text = record { spaces = refl; unarrowed = refl }; scan 
 sort_is : IsOther (codes "Sort")
 sort_is = record { is_text = record { spaces = refl; unarrowed = refl }; scan = refl }
 
+ordered_is : IsOther (codes "Ordered Append")
+ordered_is = record { is_text = record { spaces = refl; unarrowed = refl }; scan = refl }
+
 limit_is : IsOther (codes "Limit")
 limit_is = record { is_text = record { spaces = refl; unarrowed = refl }; scan = refl }
 
@@ -176,11 +182,63 @@ module _ (ns : List NamedItem) where
   sorted_scan os [] n leaves of_node d = of_node d
   sorted_scan os (k ∷ ks) n leaves of_node d = over_scans (codes "Sort") (sort_detail ns os (k ∷ ks)) n leaves sort_is (refl, tt) of_node d
 
+  -- ---- parts that are sorted by themselves
+
+  named : PlannedItem → List Leaf → List (List ℕ)
+  named i ls = map (λ (leaf : Leaf). leaf.name ++ alias_behind ns i.number) ls
+
+  part_scan : (i : PlannedItem) (part : List Leaf) (d : ℕ) → flat_map scan_in (part_scans ns unrun i part d) ≡ named i part
+  part_scan i part d = by (length part == 1)
+    where
+      here : (e : ℕ) → flat_map scan_in (scans ns unrun i.number (filters ns i) part e) ≡ named i part
+      here e = scans_scan i.number (filters ns i) part e (filter_details (several ns (scan_conjuncts i)))
+
+      by : (b : Bool) → flat_map scan_in ((if b then scans ns unrun i.number (filters ns i) part else over (codes "Append") [] (scans ns unrun i.number (filters ns i) part)) d) ≡ named i part
+      by true = here d
+      by false = over_scans (codes "Append") [] (scans ns unrun i.number (filters ns i) part) (named i part) append_is tt here d
+
+  module _ (keys : List (List ℕ)) (h : AreDetails keys) where
+    one_part : (i : PlannedItem) (part : List Leaf) (d : ℕ) → flat_map scan_in (sorted_part ns unrun keys i part d) ≡ named i part
+    one_part i part d = over_scans (codes "Sort") keys (part_scans ns unrun i part) (named i part) sort_is h (part_scan i part) d
+
+    parts_scan : (i : PlannedItem) (parts : List (List Leaf)) (d : ℕ) → flat_map scan_in (each (sorted_part ns unrun keys i) parts d) ≡ named i (parts_joined parts)
+    parts_scan i [] d = refl
+    parts_scan i (part ∷ parts) d =
+        flat_map-append scan_in (sorted_part ns unrun keys i part d) (each (sorted_part ns unrun keys i) parts d)
+        ∙ ap (λ l. l ++ flat_map scan_in (each (sorted_part ns unrun keys i) parts d)) (one_part i part d)
+        ∙ ap (λ l. named i part ++ l) (parts_scan i parts d)
+        ∙ sym (map-append (λ (leaf : Leaf). leaf.name ++ alias_behind ns i.number) part (parts_joined parts))
+
+    ordered_scan : (i : PlannedItem) (parts : List (List Leaf)) (d : ℕ) → flat_map scan_in (ordered_append ns unrun keys (i ∷ []) parts d) ≡ named i (parts_joined parts)
+    ordered_scan i parts d = over_scans (codes "Ordered Append") [] (each (sorted_part ns unrun keys i) parts) (named i (parts_joined parts)) ordered_is tt (parts_scan i parts) d
+
+  -- an item without a leaf has none to tell
+  no_leaf : (ls : List Leaf) (z : Bool) → true ≡ ((is_none ls && z) || false) → ls ≡ []
+  no_leaf [] z is = refl
+  no_leaf (l ∷ ls) z is = absurd (cc)
+
+  one_plan : (i : PlannedItem) (b : Bool) → b ≡ list_any keeps_none (i ∷ []) → item_leaves ns i ≡ (if b then [] else flat_map (item_leaves ns) (i ∷ []))
+  one_plan i false is = sym (append-nil (item_leaves ns i))
+  one_plan i true is = ap (named i) (no_leaf i.leaves (i.removed == 0) is)
+
+  all_scan : (keys : List (List ℕ)) → AreDetails keys → (p : Planned) (parts : List (List Leaf)) (d : ℕ) → AreAll p.items parts → flat_map scan_in (ordered_append ns unrun keys p.items parts d) ≡ plan_leaves ns p
+  all_scan keys h p parts d all =
+      ap (λ is. flat_map scan_in (ordered_append ns unrun keys is parts d)) all.alone
+      ∙ ordered_scan keys h all.item parts d
+      ∙ ap (named all.item) all.over.whole
+      ∙ one_plan all.item (list_any keeps_none (all.item ∷ [])) refl
+      ∙ ap (λ is. if list_any keeps_none is then [] else flat_map (item_leaves ns) is) (sym all.alone)
+
+  in_order_scan : (m : SelectMeant) (p : Planned) (d : ℕ) → flat_map scan_in (in_order ns unrun m p (sorted_parts m p.items) d) ≡ plan_leaves ns p
+  in_order_scan m p d = by (sorted_parts m p.items) refl
+    where
+      by : (parts : List (List Leaf)) → parts ≡ sorted_parts m p.items → flat_map scan_in (in_order ns unrun m p parts d) ≡ plan_leaves ns p
+      by [] is = sorted_scan m.outputs m.order (rows ns unrun p) (plan_leaves ns p) (rows_scan p) d
+      by (part ∷ parts) is = all_scan (sort_detail ns m.outputs m.order) (refl, tt) p (part ∷ parts) d (parts_are_all m p.items (part ∷ parts) is (omega arith))
+
 limited_scan : (is_cut : Bool) (n : Node) (leaves : List (List ℕ)) → ((d : ℕ) → flat_map scan_in (n d) ≡ leaves) → (d : ℕ) → flat_map scan_in (limited unrun is_cut n d) ≡ leaves
 limited_scan false n leaves of_node d = of_node d
 limited_scan true n leaves of_node d = over_scans (codes "Limit") [] n leaves limit_is tt of_node d
 
 pub of_the_leaves : ScansAreOfTheLeaves
-of_the_leaves ns is_cut m p =
-    limited_scan is_cut (sorted ns unrun m.outputs m.order (rows ns unrun p)) (plan_leaves ns p)
-    (sorted_scan ns m.outputs m.order (rows ns unrun p) (plan_leaves ns p) (rows_scan ns p)) 0
+of_the_leaves ns is_cut m p = limited_scan is_cut (in_order ns unrun m p (sorted_parts m p.items)) (plan_leaves ns p) (in_order_scan ns m p) 0

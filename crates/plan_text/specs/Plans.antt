@@ -8,7 +8,8 @@ use Rattle.pg_values.specs.declared.value.Value.TheVariants.{Text}
 use Rattle.cond_logic.specs.declared.select.SortKey.{SortKey}
 use Rattle.cond_logic.specs.Asked.{OutputTree, SelectMeant}
 use Rattle.cond_logic.specs.Tables.{Leaf}
-use Rattle.plan_tree.specs.Counts.{PlanCount, scan_count, append_count, join_count, given_count, answer_count}
+use Rattle.plan_tree.specs.Counts.{PlanCount, scan_count, append_count, join_count, part_count, given_count, answer_count}
+use Rattle.plan_tree.specs.OrderedAppends.{sorted_parts}
 use Rattle.plan_tree.specs.Plans.{PlannedItem, Planned, is_empty, scan_conjuncts, hash_conds, join_filter}
 use Rattle.plan_tree.specs.declared.join_kind.JoinKind.{JoinKind}
 use Rattle.plan_tree.specs.declared.join_kind.JoinKind.TheVariants.{NestedLoop, HashJoin}
@@ -109,13 +110,31 @@ abbrev pub sorted : List NamedItem → Counts → List OutputTree → List SortK
 sorted ns c os [] n = n
 sorted ns c os (k ∷ ks) n = over (told given_count c (codes "Sort")) (sort_detail ns os (k ∷ ks)) n
 
+-- the scans of a part of an item, alone or under an Append
+abbrev pub part_scans : List NamedItem → Counts → PlannedItem → List Leaf → Node
+part_scans ns c i part =
+    if length part == 1 then scans ns c i.number (filters ns i) part
+    else over (told (part_count i.number part) c (codes "Append")) [] (scans ns c i.number (filters ns i) part)
+
+abbrev pub sorted_part : List NamedItem → Counts → (keys : List (List ℕ)) → PlannedItem → List Leaf → Node
+sorted_part ns c keys i part = over (told (part_count i.number part) c (codes "Sort")) keys (part_scans ns c i part)
+
+abbrev pub ordered_append : List NamedItem → Counts → (keys : List (List ℕ)) → List PlannedItem → (parts : List (List Leaf)) → Node
+ordered_append ns c keys [] parts d = []
+ordered_append ns c keys (i ∷ is) parts d = over (told given_count c (codes "Ordered Append")) [] (each (sorted_part ns c keys i) parts) d
+
+-- where ORDER BY goes by the bounds of partitions each is sorted by itself, else all rows are
+abbrev pub in_order : List NamedItem → Counts → SelectMeant → Planned → (parts : List (List Leaf)) → Node
+in_order ns c m p [] = sorted ns c m.outputs m.order (rows ns c p)
+in_order ns c m p (part ∷ parts) = ordered_append ns c (sort_detail ns m.outputs m.order) p.items (part ∷ parts)
+
 abbrev pub limited : Counts → Bool → Node → Node
 limited c false n = n
 limited c true n = over (told answer_count c (codes "Limit")) [] n
 
 -- the plan of a SELECT over items of these names, with what was counted if it was run; its rows are cut, or not
 abbrev pub plan : List NamedItem → Counts → (is_cut : Bool) → SelectMeant → Planned → Node
-plan ns c is_cut m p = limited c is_cut (sorted ns c m.outputs m.order (rows ns c p))
+plan ns c is_cut m p = limited c is_cut (in_order ns c m p (sorted_parts m p.items))
 
 abbrev pub plan_lines : List NamedItem → Counts → (is_cut : Bool) → SelectMeant → Planned → List (List ℕ)
 plan_lines ns c is_cut m p = plan ns c is_cut m p 0

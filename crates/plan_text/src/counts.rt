@@ -4,6 +4,7 @@ ghost use Rattle.std.specs.Prelude.{◌≡◌, option_map};
 ghost use Rattle.cond_logic.specs.Tuples.{lent};
 ghost use Rattle.plan_tree.specs.Counts as spec;
 
+use cond_logic::NamedLeaf;
 use pg_values::LeafId;
 use plan_tree::{Count, PlanCounts};
 
@@ -37,7 +38,21 @@ pub(crate) fn of_join(counts: Option<&PlanCounts>, item: u32) -> Option<Count>
     }
 }
 
-/// Of a Sort, and of a Result in the place of items.
+/// Of the Sort of a part of an item, and of an Append of its scans.
+pub(crate) fn of_part(
+    counts: Option<&PlanCounts>,
+    item: u32,
+    leaves: &[NamedLeaf<'_>],
+) -> Option<Count>
+    ensures { result ≡ option_map (spec.part_count item leaves.now) (lent counts.entry) }
+{
+    match counts {
+        None => None,
+        Some(counts) => Some(counts.of_part(item, leaves)),
+    }
+}
+
+/// Of a Sort, of an Ordered Append, and of a Result in the place of items.
 pub(crate) fn of_given(counts: Option<&PlanCounts>) -> Option<Count>
     ensures { result ≡ option_map spec.given_count (lent counts.entry) }
 {

@@ -1,6 +1,8 @@
 ghost use Rattle.std.specs.Prelude.{◌≡◌, ◌≤◌, ◌+◌, ◌++◌, ◌∷◌, [], OnOk, IfOk, length, map};
+ghost use Rattle.std.specs.List.{flat_map};
 ghost use Rattle.cond_logic.specs.Asked.{output_tree, select_meant};
 ghost use Rattle.cond_logic.specs.Tuples.{lent};
+ghost use Rattle.plan_tree.specs.OrderedAppends.{sorted_parts};
 ghost use Rattle.plan_tree.specs.Plans.{planned, planned_item};
 ghost use Rattle.plan_text.specs.Plans as plans;
 
@@ -8,8 +10,8 @@ use crate::NamedItem;
 use crate::counts::{of_answer, of_given, of_join};
 use crate::keys::write_keys;
 use crate::nodes::push_node;
-use crate::scans::{join_details, push_item};
-use cond_logic::{Output, SelectAsk, SortKey};
+use crate::scans::{join_details, push_item, push_part};
+use cond_logic::{NamedLeaf, Output, SelectAsk, SortKey};
 use pg_values::{Answer, Kind, KindList, NameList, NoMemory, PgText, Row, RowList, Value};
 use plan_tree::{JoinKind, Plan, PlanCounts, PlanItem};
 use std::alloc::Global;
@@ -118,6 +120,78 @@ fn push_sorted(
     push_rows(alloc, items, counts, plan, depth + 1, out)
 }
 
+// The parts of an item, each sorted by itself.
+fn push_parts(
+    alloc: Global,
+    items: &[NamedItem],
+    counts: Option<&PlanCounts>,
+    keys: &[PgText],
+    item: &PlanItem<'_>,
+    parts: &[&[NamedLeaf<'_>]],
+    depth: usize,
+    out: &mut Vec<PgText>,
+) -> Result<(), NoMemory>
+    requires { depth ≤ 98 }
+    ensures { OnOk result (out.new.items ≡ out.old.items ++ flat_map (λ part. plans.sorted_part items.now (lent counts.entry) keys.now (planned_item item.now) part.now depth) parts.now) }
+{
+    for part in parts {
+        push_part(alloc, items, counts, keys, item, part, depth, out)?;
+    }
+    Ok(())
+}
+
+fn push_ordered(
+    alloc: Global,
+    items: &[NamedItem],
+    counts: Option<&PlanCounts>,
+    keys: &[PgText],
+    plan: &Plan<'_>,
+    parts: &[&[NamedLeaf<'_>]],
+    depth: usize,
+    out: &mut Vec<PgText>,
+) -> Result<(), NoMemory>
+    requires { depth ≤ 97 }
+    ensures { OnOk result (out.new.items ≡ out.old.items ++ plans.ordered_append items.now (lent counts.entry) keys.now (planned plan.now).items (map (λ p. p.now) parts.now) depth) }
+{
+    if plan.items.is_empty() {
+        return Ok(());
+    }
+    push_node(alloc, depth, b"Ordered Append", of_given(counts), &[], out)?;
+    push_parts(
+        alloc,
+        items,
+        counts,
+        keys,
+        &plan.items[0],
+        parts,
+        depth + 1,
+        out,
+    )
+}
+
+// The rows in the order of ORDER BY.
+fn push_in_order(
+    alloc: Global,
+    items: &[NamedItem],
+    counts: Option<&PlanCounts>,
+    ask: &SelectAsk,
+    plan: &Plan<'_>,
+    depth: usize,
+    out: &mut Vec<PgText>,
+) -> Result<(), NoMemory>
+    requires { depth + length (planned plan.now).items ≤ 97 }
+    ensures { OnOk result (out.new.items ≡ out.old.items ++ plans.in_order items.now (lent counts.entry) (select_meant ask.now) (planned plan.now) (sorted_parts (select_meant ask.now) (planned plan.now).items) depth) }
+{
+    let outputs = ask.outputs.as_slice();
+    let order = ask.order.as_slice();
+    let parts = plan.sorted_parts(alloc, ask)?;
+    if parts.is_empty() {
+        return push_sorted(alloc, items, counts, outputs, order, plan, depth, out);
+    }
+    let keys = sort_detail(alloc, items, outputs, order)?;
+    push_ordered(alloc, items, counts, &keys, plan, &parts, depth, out)
+}
+
 fn plan_lines(
     alloc: Global,
     items: &[NamedItem],
@@ -132,28 +206,10 @@ fn plan_lines(
     let mut lines = Vec::new(alloc);
     if is_cut {
         push_node(alloc, 0, b"Limit", of_answer(counts), &[], &mut lines)?;
-        push_sorted(
-            alloc,
-            items,
-            counts,
-            ask.outputs.as_slice(),
-            ask.order.as_slice(),
-            plan,
-            1,
-            &mut lines,
-        )?;
+        push_in_order(alloc, items, counts, ask, plan, 1, &mut lines)?;
         return Ok(lines);
     }
-    push_sorted(
-        alloc,
-        items,
-        counts,
-        ask.outputs.as_slice(),
-        ask.order.as_slice(),
-        plan,
-        0,
-        &mut lines,
-    )?;
+    push_in_order(alloc, items, counts, ask, plan, 0, &mut lines)?;
     Ok(lines)
 }
 

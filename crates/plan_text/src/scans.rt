@@ -8,7 +8,7 @@ ghost use Rattle.plan_text.specs.Plans as plans;
 
 use crate::NamedItem;
 use crate::conditions::push_conjuncts;
-use crate::counts::{of_append, of_scan};
+use crate::counts::{of_append, of_part, of_scan};
 use crate::names::write_alias;
 use crate::nodes::push_node;
 use crate::rows::all_text;
@@ -225,4 +225,46 @@ pub(crate) fn push_item(
         depth + 1,
         out,
     )
+}
+
+// The scans of a part of an item.
+fn push_part_scans(
+    alloc: Global,
+    items: &[NamedItem],
+    counts: Option<&PlanCounts>,
+    item: &PlanItem<'_>,
+    part: &[NamedLeaf<'_>],
+    depth: usize,
+    out: &mut Vec<PgText>,
+) -> Result<(), NoMemory>
+    requires { depth ≤ 99 }
+    ensures { OnOk result (out.new.items ≡ out.old.items ++ plans.part_scans items.now (lent counts.entry) (planned_item item.now) part.now depth) }
+{
+    let number = item.number;
+    let asked = filters(alloc, items, item)?;
+    if part.len() == 1 {
+        return push_scans(alloc, items, counts, number, &asked, part, depth, out);
+    }
+    let count = of_part(counts, number, part);
+    push_node(alloc, depth, b"Append", count, &[], out)?;
+    push_scans(alloc, items, counts, number, &asked, part, depth + 1, out)
+}
+
+/// Appends the lines of a part of an item, which is sorted by itself by these keys.
+pub(crate) fn push_part(
+    alloc: Global,
+    items: &[NamedItem],
+    counts: Option<&PlanCounts>,
+    keys: &[PgText],
+    item: &PlanItem<'_>,
+    part: &[NamedLeaf<'_>],
+    depth: usize,
+    out: &mut Vec<PgText>,
+) -> Result<(), NoMemory>
+    requires { depth ≤ 98 }
+    ensures { OnOk result (out.new.items ≡ out.old.items ++ plans.sorted_part items.now (lent counts.entry) keys.now (planned_item item.now) part.now depth) }
+{
+    let count = of_part(counts, item.number, part);
+    push_node(alloc, depth, b"Sort", count, keys, out)?;
+    push_part_scans(alloc, items, counts, item, part, depth + 1, out)
 }

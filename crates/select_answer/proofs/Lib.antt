@@ -13,7 +13,9 @@ pub mod Kept
 pub mod Marks
 pub mod Opened
 pub mod Matches
+pub mod OrderedReads
 pub mod Plain
 pub mod Pruned
 pub mod ReadLeaves
+pub mod SortedParts
 pub mod Total

@@ -1,5 +1,5 @@
 -- The order of rows by the keys of ORDER BY (7.5 Sorting Rows).
-use Rattle.std.specs.Prelude.{ℕ, ◌+◌, Bool, true, false, List, [], ◌∷◌, slice_index_or, if◌then◌else◌}
+use Rattle.std.specs.Prelude.{ℕ, ◌+◌, Bool, true, false, not, List, [], ◌∷◌, slice_index_or, if◌then◌else◌}
 use Rattle.std.specs.Ordering.{nat_cmp, on, then_cmp, flip_args, is_lt}
 use Rattle.std.specs.declared.cmp.Ordering.{Ordering}
 use Rattle.std.specs.declared.cmp.Ordering.TheVariants.{Equal}
@@ -32,3 +32,16 @@ keys_order place (k ∷ ks) = then_cmp (on (λ xs. slice_index_or xs place Null)
 
 abbrev pub row_less : List SortKey → KeyedRow → KeyedRow → Bool
 row_less ks a b = is_lt (keys_order 0 ks a.keys b.keys)
+
+-- ---- parts
+
+-- the first of these rows does not go before the row
+abbrev pub before_all : List SortKey → KeyedRow → List KeyedRow → Bool
+before_all ks r [] = true
+before_all ks r (q ∷ qs) = not (row_less ks q r)
+
+-- what stands behind does not go before the last of what stands before
+abbrev pub stands_right : List SortKey → (before behind : List KeyedRow) → Bool
+stands_right ks [] behind = true
+stands_right ks (r ∷ []) behind = before_all ks r behind
+stands_right ks (r ∷ s ∷ rs) behind = stands_right ks (s ∷ rs) behind

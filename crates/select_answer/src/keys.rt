@@ -1,12 +1,15 @@
-ghost use Rattle.std.specs.Prelude.{◌≡◌, ℕ, ◌+◌, OnOk, OnErr, slice_index_or};
+ghost use Rattle.std.specs.Prelude.{◌≡◌, ◌≤◌, ℕ, ◌+◌, IfOk, OnOk, length, slice_index_or, take, true};
+ghost use Rattle.std.specs.List.Sorted.{IsSortedBy, IsStableBy};
 ghost use Rattle.pg_values.specs.declared.value.Value.TheVariants.{Null};
 ghost use Rattle.cond_logic.specs.Truths as truths;
-ghost use Rattle.select_answer.specs.Keys.{null_rank, directed, value_order, keys_order, row_less};
+ghost use Rattle.select_answer.specs.Keys as keys;
+ghost use Rattle.select_answer.specs.Keys.{before_all, directed, keys_order, null_rank, row_less, value_order};
 ghost use Rattle.part_bounds.specs.Sorted.{sorted};
 
 use crate::KeyedRow;
 use cond_logic::SortKey;
 use pg_values::{NoMemory, Row, Value, cmp_any};
+use std::alloc::Global;
 use std::cmp::Ordering;
 
 fn is_null(value: &Value) -> bool
@@ -80,11 +83,82 @@ fn cmp_keys(order: &[SortKey], a: &Row, b: &Row) -> Ordering
     Ordering::Equal
 }
 
-/// Sorts the rows by the keys; rows that tie stay in order.
-pub(crate) fn sort_rows(order: &[SortKey], rows: &mut Vec<KeyedRow>) -> Result<(), NoMemory>
-    ensures ok { OnOk result (rows.new.items ≡ sorted (row_less order.now) rows.old.items) }
-    ensures err { OnErr result (rows.new.items ≡ rows.old.items) }
+// Sorts the rows by the keys; rows that tie stay in order.
+fn sort_rows(alloc: Global, order: &[SortKey], rows: &mut [KeyedRow]) -> Result<(), NoMemory>
+    ensures sorted { OnOk result (IsSortedBy (row_less order.now) rows.new) }
+    ensures stable { OnOk result (IsStableBy (row_less order.now) rows.old rows.new) }
 {
-    rows.sort_by(|a, b| cmp_keys(order, &a.keys, &b.keys))?;
+    rows.sort_by(alloc, |a, b| cmp_keys(order, &a.keys, &b.keys))?;
+    Ok(())
+}
+
+// ---- parts
+
+// Whether the first of the rows does not go before the row.
+fn goes_before(order: &[SortKey], row: &KeyedRow, behind: &[KeyedRow]) -> bool
+    ensures { result ≡ before_all order.now row.now behind.now }
+{
+    match behind.split_first() {
+        None => true,
+        Some((first, _)) => !matches!(cmp_keys(order, &first.keys, &row.keys), Ordering::Less),
+    }
+}
+
+fn stands_right(order: &[SortKey], before: &[KeyedRow], behind: &[KeyedRow]) -> bool
+    ensures { result ≡ keys.stands_right order.now before.now behind.now }
+{
+    match before.split_last() {
+        None => true,
+        Some((last, _)) => goes_before(order, last, behind),
+    }
+}
+
+// Sorts the rows from the one place to the other; tells whether all up to there stand in order then.
+fn sort_part(
+    alloc: Global,
+    order: &[SortKey],
+    start: usize,
+    end: usize,
+    in_order: bool,
+    rows: &mut [KeyedRow],
+) -> Result<bool, NoMemory>
+    requires rise { start ≤ end }
+    requires within { end ≤ length rows.old }
+    ensures sorted { IfOk result (λ right. right ≡ true → (in_order ≡ true → IsSortedBy (row_less order.now) (take start rows.old)) → IsSortedBy (row_less order.now) (take end rows.new)) }
+    ensures stable { OnOk result (IsStableBy (row_less order.now) rows.old rows.new) }
+{
+    sort_rows(alloc, order, &mut rows[start..end])?;
+    if !in_order {
+        return Ok(false);
+    }
+    if start == end {
+        return Ok(true);
+    }
+    let (before, behind) = rows.split_at(start);
+    Ok(stands_right(order, before, behind))
+}
+
+/// Sorts the rows, of which each part ends at one of these places. The parts are sorted one by one: as they follow on one
+/// another that is all, and where one does not, all rows are sorted. Rows that tie stay in order.
+pub(crate) fn sort_parts(
+    alloc: Global,
+    order: &[SortKey],
+    ends: &[usize],
+    rows: &mut [KeyedRow],
+) -> Result<(), NoMemory>
+    ensures { OnOk result (rows.new ≡ sorted (row_less order.now) rows.old) }
+{
+    let mut start: usize = 0;
+    let mut in_order = true;
+    for place in ends {
+        let end = (*place).min(rows.len()).max(start);
+        in_order = sort_part(alloc, order, start, end, in_order, rows)?;
+        start = end;
+    }
+    in_order = sort_part(alloc, order, start, rows.len(), in_order, rows)?;
+    if in_order {
+        return Ok(());
+    }
+    sort_rows(alloc, order, rows)?;
     Ok(())
 }
