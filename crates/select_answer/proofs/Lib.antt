@@ -11,8 +11,8 @@ pub mod Items
 pub mod JoinByJoin
 pub mod Kept
 pub mod Marks
-pub mod Opened
 pub mod Matches
+pub mod Opened
 pub mod OrderedReads
 pub mod Plain
 pub mod Pruned
