@@ -1,6 +1,6 @@
 //! The items of a plan: scans of leaves, with what they ask.
 
-ghost use Rattle.std.specs.Prelude.{◌≡◌, ◌≤◌, ◌++◌, OnOk, IfOk, codes};
+ghost use Rattle.std.specs.Prelude.{◌≡◌, ◌≤◌, ◌++◌, OnOk, IfOk};
 ghost use Rattle.cond_logic.specs.Tuples.{lent};
 ghost use Rattle.plan_tree.specs.Plans.{hash_conds, join_filter, planned_item, scan_conjuncts};
 ghost use Rattle.plan_text.specs.Conditions.{several};

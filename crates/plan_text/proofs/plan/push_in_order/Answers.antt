@@ -1,4 +1,4 @@
-use Rattle.std.proofs.Common.{◌∙◌, ◌++◌, ap, map, sym}
+use Rattle.std.proofs.Common.{◌∙◌, ◌++◌, ap, sym}
 use Rattle.cond_logic.specs.Asked.{select_meant}
 use Rattle.cond_logic.specs.Tuples.{lent}
 use Rattle.plan_tree.specs.Plans.{planned}
