@@ -1,5 +1,4 @@
 use Rattle.std.proofs.Common.{arith, length}
-use Rattle.std.proofs.lemmas.Grind.{common_steps}
 use Rattle.select_answer.specs.Keys.{row_less}
 use Rattle.select_answer.proofs.SortedParts.{all_sorted, front_sorted, stable_again}
 use Rattle.select_answer.proofs.Total.{row_weak}
@@ -7,7 +6,7 @@ use Rattle.select_answer.proofs.keys.sort_parts.Goals as goal
 
 pub loop-place-preserved : goal.loop-place-preserved
 loop-place-preserved c = record {
-  within = let kept = c.sort_part.auto.rows in let most = c.max-end.ensures in let least = c.min.ensures in let start = c.loop-place.invariant.within in first_of (omega (arith, kept, most, least, start), grind (arith, common_steps, kept, most, least, start));
+  within = let kept = c.sort_part.auto.rows in let most = c.max-end.ensures in let least = c.min.ensures in let start = c.loop-place.invariant.within in omega (arith, kept, most, least, start);
   sorted = λ is. c.in_ok-in_order.ensures.sorted is c.loop-place.invariant.sorted;
   stable = stable_again (row_less c.args.order.now) (row_weak c.args.order.now) c.args.rows.now c.loop-place.rows c.sort_part.new.rows c.loop-place.invariant.stable c.in_ok-in_order.ensures.stable;
 }
