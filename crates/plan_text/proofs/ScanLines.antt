@@ -184,7 +184,7 @@ module _ (ns : List NamedItem) where
 
   -- ---- parts that are sorted by themselves
 
-  named : PlannedItem → List Leaf → List (List ℕ)
+  abbrev named : PlannedItem → List Leaf → List (List ℕ)
   named i ls = map (λ (leaf : Leaf). leaf.name ++ alias_behind ns i.number) ls
 
   part_scan : (i : PlannedItem) (part : List Leaf) (d : ℕ) → flat_map scan_in (part_scans ns unrun i part d) ≡ named i part

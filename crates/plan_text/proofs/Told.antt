@@ -1,8 +1,9 @@
 -- The texts of a plan, part by part.
-use Rattle.std.proofs.Common.{◌≡◌, ℕ, ◌+◌, ◌==◌, ◌<◌, false, List, [], ◌∷◌, ◌++◌, codes, map, drop, take, length, get_or, add-one, arith, refl, sym, ap, ◌∙◌, append-nil, append_assoc, true, Result, Ok, Err}
+use Rattle.std.proofs.Common.{◌≡◌, ℕ, ◌+◌, ◌==◌, ◌<◌, false, List, [], ◌∷◌, ◌++◌, codes, map, drop, take, length, get_or, add-one, arith, refl, sym, ap, ap₂, ◌∙◌, append-nil, append_assoc, true, Result, Ok, Err}
 use Rattle.std.specs.Prelude.{OnOk, Option, option_map}
 use Rattle.std.specs.List.{flat_map}
 use Rattle.std.proofs.Math.Seq.{take-suc}
+use Rattle.std.proofs.lemmas.Bool.Decides.{nat_tests}
 use Rattle.std.proofs.lemmas.List.{flat_map_more, map-append}
 use Rattle.std.proofs.lemmas.List.Folds.{flat_map-map}
 use Rattle.cond_logic.specs.declared.cond.Cond.{Cond}
@@ -84,30 +85,32 @@ sorted_told ns c os (k ∷ ks) n d count o0 o1 o2 details some given keyed head 
     rest ∙ ap (λ l. l ++ n (d + 1)) first ∙ append_assoc o0 (alone (told given_count c (codes "Sort")) (sort_detail ns os (k ∷ ks)) d) (n (d + 1))
 
 -- where parts are sorted by themselves
-pub ordered_told : {Y X : Type 0} (ns : List NamedItem) (c : Counts) (keys : List (List ℕ)) (f : Y → PlannedItem) (is : List Y) (i : Y) (now : X → List Leaf) (parts : List X) (d : ℕ) (count : Option Count) (o0 o1 o2 : List (List ℕ)) → (length is == 0) ≡ false → i ≡ get_or is 0 i → count ≡ option_map given_count c
+pub ordered_told : {Y X : Type 0} (ns : List NamedItem) (c : Counts) (keys : List (List ℕ)) (f : Y → PlannedItem) (is : List Y) (i : Y) (now : X → List Leaf) (parts : List X) (d n : ℕ) (count : Option Count) (o0 o1 o2 : List (List ℕ)) → n ≡ length is → (n == 0) ≡ false → i ≡ get_or is 0 i → count ≡ option_map given_count c
     → o1 ≡ o0 ++ alone (counted (codes "Ordered Append") count) [] d → o2 ≡ o1 ++ flat_map (λ (p : X). sorted_part ns c keys (f i) (now p) (d + 1)) parts → o2 ≡ o0 ++ ordered_append ns c keys (map f is) (map now parts) d
-ordered_told ns c keys f [] i now parts d count o0 o1 o2 none first given head rest = absurd (cc)
-ordered_told ns c keys f (j ∷ js) i now parts d count o0 o1 o2 some first given head rest =
+ordered_told ns c keys f [] i now parts d n count o0 o1 o2 size some first given head rest = absurd (cc)
+ordered_told ns c keys f (j ∷ js) i now parts d n count o0 o1 o2 size some first given head rest =
     let line = alone (told given_count c (codes "Ordered Append")) [] d in
     let each_of = λ (k : PlannedItem). flat_map (λ p. sorted_part ns c keys k (now p) (d + 1)) parts in
-    let start : o1 ≡ o0 ++ line = head ∙ ap (λ n. o0 ++ alone (counted (codes "Ordered Append") n) [] d) given in
+    let start : o1 ≡ o0 ++ line = head ∙ ap (λ m. o0 ++ alone (counted (codes "Ordered Append") m) [] d) given in
     rest ∙ ap (λ l. l ++ each_of (f i)) start ∙ append_assoc o0 line (each_of (f i)) ∙ ap (λ k. o0 ++ (line ++ each_of (f k))) first
     ∙ ap (λ l. o0 ++ (line ++ l)) (sym (flat_map-map (λ ls. sorted_part ns c keys (f j) ls (d + 1)) now parts))
 
-pub no_item : {Y : Type 0} (ns : List NamedItem) (c : Counts) (keys : List (List ℕ)) (f : Y → PlannedItem) (is : List Y) (parts : List (List Leaf)) (d : ℕ) (o : List (List ℕ)) → (length is == 0) ≡ true → o ≡ o ++ ordered_append ns c keys (map f is) parts d
-no_item ns c keys f [] parts d o none = sym (append-nil o)
-no_item ns c keys f (i ∷ is) parts d o none = absurd (cc)
+pub no_item : {Y : Type 0} (ns : List NamedItem) (c : Counts) (keys : List (List ℕ)) (f : Y → PlannedItem) (is : List Y) (parts : List (List Leaf)) (d n : ℕ) (o : List (List ℕ)) → n ≡ length is → (n == 0) ≡ true → o ≡ o ++ ordered_append ns c keys (map f is) parts d
+no_item ns c keys f [] parts d n o size none = sym (append-nil o)
+no_item ns c keys f (i ∷ is) parts d n o size none = let zero : n ≡ 0 = grind (arith, nat_tests, none) in absurd (omega (arith, size, zero))
 
 -- no part is, so all rows are sorted
-pub in_order_none : {X : Type 0} (ns : List NamedItem) (c : Counts) (m : SelectMeant) (p : Planned) (now : X → List Leaf) (xs : List X) (d : ℕ) → map now xs ≡ sorted_parts m p.items → (length xs == 0) ≡ true
-    → in_order ns c m p (sorted_parts m p.items) d ≡ sorted ns c m.outputs m.order (rows ns c p) d
-in_order_none ns c m p now [] d same none = ap (λ parts. in_order ns c m p parts d) (sym same)
-in_order_none ns c m p now (x ∷ xs) d same none = absurd (cc)
+pub in_order_none : {X : Type 0} (ns : List NamedItem) (c : Counts) (m : SelectMeant) (p : Planned) (now : X → List Leaf) (xs : List X) (d n : ℕ) (os : List OutputTree) (ks : List SortKey) → map now xs ≡ sorted_parts m p.items → n ≡ length xs → (n == 0) ≡ true
+    → os ≡ m.outputs → ks ≡ m.order → sorted ns c os ks (rows ns c p) d ≡ in_order ns c m p (sorted_parts m p.items) d
+in_order_none ns c m p now [] d n os ks same size none outs order = ap₂ (λ os ks. sorted ns c os ks (rows ns c p) d) outs order ∙ ap (λ parts. in_order ns c m p parts d) same
+in_order_none ns c m p now (x ∷ xs) d n os ks same size none outs order = let zero : n ≡ 0 = grind (arith, nat_tests, none) in absurd (omega (arith, size, zero))
 
-pub in_order_some : {X : Type 0} (ns : List NamedItem) (c : Counts) (m : SelectMeant) (p : Planned) (now : X → List Leaf) (xs : List X) (d : ℕ) → map now xs ≡ sorted_parts m p.items → (length xs == 0) ≡ false
-    → in_order ns c m p (sorted_parts m p.items) d ≡ ordered_append ns c (sort_detail ns m.outputs m.order) p.items (map now xs) d
-in_order_some ns c m p now [] d same some = absurd (cc)
-in_order_some ns c m p now (x ∷ xs) d same some = ap (λ parts. in_order ns c m p parts d) (sym same)
+-- each part is
+pub in_order_some : {X : Type 0} (ns : List NamedItem) (c : Counts) (m : SelectMeant) (p : Planned) (now : X → List Leaf) (xs ys : List X) (d n : ℕ) (os : List OutputTree) (ks : List SortKey) (keys : List (List ℕ)) → map now xs ≡ sorted_parts m p.items → n ≡ length xs → (n == 0) ≡ false
+    → os ≡ m.outputs → ks ≡ m.order → keys ≡ sort_detail ns os ks → ys ≡ xs → ordered_append ns c keys p.items (map now ys) d ≡ in_order ns c m p (sorted_parts m p.items) d
+in_order_some ns c m p now [] ys d n os ks keys same size some outs order keyed lent = absurd (cc)
+in_order_some ns c m p now (x ∷ xs) ys d n os ks keys same size some outs order keyed lent =
+    ap₂ (λ keys ps. ordered_append ns c keys p.items (map now ps) d) (keyed ∙ ap₂ (sort_detail ns) outs order) lent ∙ ap (λ parts. in_order ns c m p parts d) same
 
 -- ---- scans
 

@@ -1,5 +1,5 @@
 -- How a plan names items of FROM and their columns (14.1.1 EXPLAIN Basics; 7.2.1.2 Table and Column Aliases).
-use Rattle.std.specs.Prelude.{ℕ, nat_lt, Bool, true, false, if◌then◌else◌, List, [], ◌++◌, Option, Some, None, length, slice_get, slice_index_or, codes}
+use Rattle.std.specs.Prelude.{ℕ, nat_lt, Bool, false, if◌then◌else◌, List, [], ◌++◌, Option, Some, None, length, slice_get, slice_index_or, codes}
 use Rattle.cond_logic.specs.declared.cond.ColumnId.{ColumnId}
 use Rattle.plan_text.specs.declared.named_item.NamedItem.{NamedItem}
 

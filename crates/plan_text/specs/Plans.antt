@@ -1,5 +1,5 @@
 -- The text of a plan (14.1.1 EXPLAIN Basics; 14.1.2 EXPLAIN ANALYZE; 5.11.4 Partition Pruning; EXPLAIN).
-use Rattle.std.specs.Prelude.{ℕ, ◌==◌, Bool, true, false, not, ◌&&◌, ◌||◌, if◌then◌else◌, List, [], ◌∷◌, ◌++◌, Option, option_map, map, length, codes, decimal}
+use Rattle.std.specs.Prelude.{ℕ, ◌==◌, Bool, true, false, not, ◌&&◌, ◌||◌, if◌then◌else◌, List, [], ◌∷◌, ◌++◌, Option, option_map, map, filter, length, codes, decimal}
 use Rattle.std.specs.List.{flat_map}
 use Rattle.pg_values.specs.declared.answer.Answer.{Answer}
 use Rattle.pg_values.specs.declared.value.Kind.TheVariants.{Text as KText}
@@ -8,13 +8,18 @@ use Rattle.pg_values.specs.declared.value.Value.TheVariants.{Text}
 use Rattle.cond_logic.specs.declared.select.SortKey.{SortKey}
 use Rattle.cond_logic.specs.Asked.{OutputTree, SelectMeant}
 use Rattle.cond_logic.specs.Tables.{Leaf}
+use Rattle.cond_logic.specs.Trees.{CondTree}
+use Rattle.plan_tree.specs.Conjuncts.{lies_within}
 use Rattle.plan_tree.specs.Counts.{PlanCount, scan_count, append_count, join_count, part_count, given_count, answer_count}
+use Rattle.plan_tree.specs.JoinKinds.{is_hash_cond, is_join_filter}
 use Rattle.plan_tree.specs.OrderedAppends.{sorted_parts}
 use Rattle.plan_tree.specs.Plans.{PlannedItem, Planned, is_empty, scan_conjuncts, hash_conds, join_filter}
 use Rattle.plan_tree.specs.declared.join_kind.JoinKind.{JoinKind}
 use Rattle.plan_tree.specs.declared.join_kind.JoinKind.TheVariants.{NestedLoop, HashJoin}
 use Rattle.plan_tree.specs.declared.count.Count.{Count}
 use Rattle.plan_text.specs.declared.named_item.NamedItem.{NamedItem}
+use Rattle.plan_text.specs.declared.scans.Detail.{Detail}
+use Rattle.plan_text.specs.declared.scans.Detail.TheVariants.{Filter, HashCond, JoinFilter}
 use Rattle.plan_text.specs.Conditions.{all_text, several}
 use Rattle.plan_text.specs.Keys.{keys}
 use Rattle.plan_text.specs.Names.{alias_behind}
@@ -30,6 +35,15 @@ abbrev pub told : (PlanCount → Count) → Counts → (text : List ℕ) → Lis
 told count c text = counted text (option_map count c)
 
 -- ---- conditions
+
+-- what a node tells of an item: what its scans ask, by what a Hash Join finds rows, and what a join asks of these
+abbrev pub tells : PlannedItem → Detail → CondTree → Bool
+tells i Filter = lies_within i.number i.number
+tells i HashCond = is_hash_cond i.join i.number
+tells i JoinFilter = is_join_filter i.join i.number
+
+abbrev pub conjuncts_told : PlannedItem → Detail → List CondTree
+conjuncts_told i d = filter (tells i d) i.conjuncts
 
 -- a detail, where there is something to ask
 abbrev pub detail : (word : List ℕ) → (texts : List (List ℕ)) → List (List ℕ)

@@ -1,6 +1,6 @@
 //! Comparisons and tests of null.
 
-ghost use Rattle.std.specs.Prelude.{◌≡◌, ◌++◌, OnOk, IfOk, codes};
+ghost use Rattle.std.specs.Prelude.{◌≡◌, ◌++◌, IfOk, codes};
 ghost use Rattle.prune_steps.specs.Atoms as atoms;
 ghost use Rattle.plan_text.specs.Conditions as conditions;
 

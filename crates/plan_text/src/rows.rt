@@ -1,6 +1,6 @@
 //! Texts in a row: the parts of AND and OR.
 
-ghost use Rattle.std.specs.Prelude.{◌≡◌, ◌++◌, OnOk, IfOk, codes};
+ghost use Rattle.std.specs.Prelude.{◌≡◌, ◌++◌, OnOk, IfOk};
 ghost use Rattle.plan_text.specs.Conditions as conditions;
 
 use pg_values::{NoMemory, PgText};

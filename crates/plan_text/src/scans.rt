@@ -1,8 +1,9 @@
 //! The items of a plan: scans of leaves, with what they ask.
 
-ghost use Rattle.std.specs.Prelude.{◌≡◌, ◌≤◌, ◌++◌, OnOk, IfOk, codes};
+ghost use Rattle.std.specs.Prelude.{◌≡◌, ◌≤◌, ◌++◌, OnOk, IfOk};
+ghost use Rattle.cond_logic.specs.Trees.{cond_tree};
 ghost use Rattle.cond_logic.specs.Tuples.{lent};
-ghost use Rattle.plan_tree.specs.Plans.{hash_conds, join_filter, planned_item, scan_conjuncts};
+ghost use Rattle.plan_tree.specs.Plans.{planned_item};
 ghost use Rattle.plan_text.specs.Conditions.{several};
 ghost use Rattle.plan_text.specs.Plans as plans;
 
@@ -12,56 +13,42 @@ use crate::counts::{of_append, of_part, of_scan};
 use crate::names::write_alias;
 use crate::nodes::push_node;
 use crate::rows::all_text;
-use cond_logic::NamedLeaf;
+use cond_logic::{Cond, NamedLeaf};
 use pg_values::{NoMemory, PgText};
 use plan_tree::{PlanCounts, PlanItem};
 use std::alloc::Global;
 
-// What its scans ask.
-fn scan_texts(
-    alloc: Global,
-    items: &[NamedItem],
-    item: &PlanItem<'_>,
-) -> Result<Vec<PgText>, NoMemory>
-    ensures { IfOk result (λ ts. ts.items ≡ several items.now (scan_conjuncts (planned_item item.now))) }
-{
-    let mut texts = Vec::new(alloc);
-    for cond in &item.conjuncts {
-        if item.scans_ask(cond) {
-            push_conjuncts(alloc, items, cond, &mut texts)?;
-        }
-    }
-    Ok(texts)
+// What a node tells of the conjuncts of an item.
+#[derive(Clone, Copy)]
+enum Detail {
+    Filter,
+    HashCond,
+    JoinFilter,
 }
 
-// By what a Hash Join finds rows.
-fn hash_texts(
-    alloc: Global,
-    items: &[NamedItem],
-    item: &PlanItem<'_>,
-) -> Result<Vec<PgText>, NoMemory>
-    ensures { IfOk result (λ ts. ts.items ≡ several items.now (hash_conds (planned_item item.now))) }
+// Whether its scans ask the conjunct, whether a Hash Join finds rows by it, or whether a join asks it of the rows that it
+// found.
+fn tells(item: &PlanItem<'_>, detail: Detail, conjunct: &Cond) -> bool
+    ensures { result ≡ plans.tells (planned_item item.now) detail (cond_tree conjunct.now) }
 {
-    let mut texts = Vec::new(alloc);
-    for cond in &item.conjuncts {
-        if item.hash_cond(cond).is_some() {
-            push_conjuncts(alloc, items, cond, &mut texts)?;
-        }
+    match detail {
+        Detail::Filter => item.scans_ask(conjunct),
+        Detail::HashCond => item.hash_cond(conjunct).is_some(),
+        Detail::JoinFilter => item.join_filters(conjunct),
     }
-    Ok(texts)
 }
 
-// What a join asks of the rows that it found.
-fn filter_texts(
+fn texts(
     alloc: Global,
     items: &[NamedItem],
     item: &PlanItem<'_>,
+    detail: Detail,
 ) -> Result<Vec<PgText>, NoMemory>
-    ensures { IfOk result (λ ts. ts.items ≡ several items.now (join_filter (planned_item item.now))) }
+    ensures { IfOk result (λ ts. ts.items ≡ several items.now (plans.conjuncts_told (planned_item item.now) detail)) }
 {
     let mut texts = Vec::new(alloc);
     for cond in &item.conjuncts {
-        if item.join_filters(cond) {
+        if tells(item, detail, cond) {
             push_conjuncts(alloc, items, cond, &mut texts)?;
         }
     }
@@ -98,7 +85,7 @@ fn filters(alloc: Global, items: &[NamedItem], item: &PlanItem<'_>) -> Result<Ve
     ensures { IfOk result (λ ds. ds.items ≡ plans.filters items.now (planned_item item.now)) }
 {
     let mut details = Vec::new(alloc);
-    let asked = scan_texts(alloc, items, item)?;
+    let asked = texts(alloc, items, item, Detail::Filter)?;
     push_detail(alloc, b"Filter: ", &asked, &mut details)?;
     Ok(details)
 }
@@ -112,9 +99,9 @@ pub(crate) fn join_details(
     ensures { IfOk result (λ ds. ds.items ≡ plans.join_details items.now (planned_item item.now)) }
 {
     let mut details = Vec::new(alloc);
-    let found_by = hash_texts(alloc, items, item)?;
+    let found_by = texts(alloc, items, item, Detail::HashCond)?;
     push_detail(alloc, b"Hash Cond: ", &found_by, &mut details)?;
-    let asked = filter_texts(alloc, items, item)?;
+    let asked = texts(alloc, items, item, Detail::JoinFilter)?;
     push_detail(alloc, b"Join Filter: ", &asked, &mut details)?;
     Ok(details)
 }

@@ -12,11 +12,12 @@ use Rattle.sql_tokens.specs.declared.token.Token.{Token}
 use Rattle.sql_expressions.specs.Grammar.{any, below, freed, nullity_at, rules, under_depth}
 use Rattle.sql_expressions.specs.Levels.{Deep, Room, Rules, begins_nested, begins_test, is_comparison, nested, call_of, maybe_tested, tested, maybe_compared, compared, inverted_by, unary, named_leaf, negation}
 use Rattle.sql_expressions.specs.Views as views
-use Rattle.sql_expressions.specs.Views.{named_at, operand_of, part_of}
+use Rattle.sql_expressions.specs.Views.{at, named_at, operand_level, operand_of, part_level, part_of}
 use Rattle.sql_tokens.specs.Classes.{a}
 use Rattle.sql_expressions.specs.Words.{name}
 use Rattle.sql_expressions.specs.declared.signs.Joint.{Joint}
 use Rattle.sql_expressions.specs.declared.signs.Chain.{Chain}
+use Rattle.sql_expressions.specs.declared.signs.Level.{Level}
 
 -- the second of two values that are read one after another
 pub second_read : {A B : Type 0} (x : A) (r : Reading Token B) → ((r >>= λ y. given (x, y.0) y.1) >>= λ (z : (A × B) × List Token). given (second_of z.0) z.1) ≡ r
@@ -56,9 +57,9 @@ module _ (text : List ℕ) (n m : ℕ) (h : n ≡ suc m) (ts : List Token) where
   unfolding under_depth
   named_deeper x rest e b = subst (λ k. (named_at text k).read ts ≡ (call_of (rules text m).expression x.1).read rest) (sym h) (named_with_room (below (suc m)) (any text) lower ts text x rest e b (is_below 0 (suc m) (omega arith)))
 
-  pub operand_deeper : (chain : Chain) → (operand_of chain (under_depth text n)).read ts ≡ (operand_of chain (rules text m)).read ts
+  pub operand_deeper : (chain : Chain) (level : Level) → level ≡ operand_level chain → (operand_of chain (under_depth text n)).read ts ≡ (at level (rules text m)).read ts
   unfolding under_depth
-  operand_deeper chain = subst (λ k. (operand_of chain (under_depth text k)).read ts ≡ (operand_of chain (rules text m)).read ts) (sym h) refl
+  operand_deeper chain level e = subst (λ k. (operand_of chain (under_depth text k)).read ts ≡ (at level (rules text m)).read ts) (sym h) (rw e refl)
 
   pub tested_deeper : (x : Deep) → begins_in begins_test ts ≡ true → x.1 < n → (views.maybe_tested text n x).read ts ≡ (tested (rules text m) x).read ts
   unfolding under_depth
@@ -78,9 +79,9 @@ module _ (text : List ℕ) (n m : ℕ) (h : n ≡ suc m) (ts : List Token) where
       subst (λ k. (rules text k).negation.read ts ≡ (inverted_by (rules text m)).read ts) (sym h)
       (negation_with_room (below (suc m)) (any text) lower ts (nullity_at text (suc m) (under_depth text (suc m))) b (is_below 0 (suc m) (omega arith)))
 
-  pub part_deeper : (joint : Joint) → (part_of joint (under_depth text n)).read ts ≡ (part_of joint (rules text m)).read ts
+  pub part_deeper : (joint : Joint) (level : Level) → level ≡ part_level joint → (part_of joint (under_depth text n)).read ts ≡ (at level (rules text m)).read ts
   unfolding under_depth
-  part_deeper joint = subst (λ k. (part_of joint (under_depth text k)).read ts ≡ (part_of joint (rules text m)).read ts) (sym h) refl
+  part_deeper joint level e = subst (λ k. (part_of joint (under_depth text k)).read ts ≡ (at level (rules text m)).read ts) (sym h) (rw e refl)
 
 -- a chain, behind its first part
 pub chain_gives : {X A B C : Type 0} (view : X → A × List Token) (r : Result X Refused) (sign : Class Token) (guard : A → Bool) (first : C → A) (join : A → Token → B → A) (q : Rule Token C) (p : A → Rule Token B)

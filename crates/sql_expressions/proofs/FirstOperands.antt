@@ -1,5 +1,5 @@
 -- A level is its first operand, and what stands behind that, from the tightest operators to the loosest.
-use Rattle.std.proofs.Common.{◌≡◌, ◌-◌, ℕ, zero, suc, Bool, true, false, List, length, Result, Ok, Err, refl, ap, sym, ◌∙◌, absurd, arith}
+use Rattle.std.proofs.Common.{◌≡◌, ◌-◌, ℕ, zero, suc, Bool, true, false, List, length, Result, Ok, Err, refl, ap, sym, ◌∙◌, arith}
 use Rattle.grammar.specs.Reading.{Class, Reading, Stop, Rule, ◌>>=◌, given, begins_in}
 use Rattle.grammar.specs.Repeats.{always, read_repeats, repeats, second_of}
 use Rattle.grammar.specs.Gives.{Refuses}

@@ -133,6 +133,8 @@ fn a_script_is_run_and_a_wrong_one_refused(rt: HostRuntime) {
     let alloc = rt.alloc();
     let ran = call(alloc, THREE_ROWS.as_bytes(), &no_fault(7)).expect(&rt, "memory");
     assert!(rt; ran.is(Ended::Done, PRINTED, ""));
+    let by_single_bytes = call(alloc, THREE_ROWS.as_bytes(), &no_fault(1)).expect(&rt, "memory");
+    assert!(rt; by_single_bytes.is(Ended::Done, PRINTED, ""));
     let refused = call(alloc, b"", &no_fault(7)).expect(&rt, "memory");
     assert!(rt; refused.is(Ended::ScriptRefused, "", REFUSED));
 }

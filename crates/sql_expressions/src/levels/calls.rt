@@ -146,7 +146,6 @@ fn first_item<'a>(
 }
 
 #[cycle(levels)]
-#[inline(never)]
 #[tactic(auto, unfolding(grammar::specs::Repeats::read_step))]
 fn item_step<'a>(
     alloc: Global,

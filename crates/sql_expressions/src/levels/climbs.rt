@@ -16,7 +16,6 @@ use std::alloc::Global;
 
 /// What stands at one place behind an operand, which it becomes a part of.
 #[cycle(levels)]
-#[inline(never)]
 fn grown<'a>(
     alloc: Global,
     text: &[u8],

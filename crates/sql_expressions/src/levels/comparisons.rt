@@ -37,7 +37,6 @@ pub(crate) fn maybe_tested<'a>(
 }
 
 #[cycle(levels)]
-#[inline(never)]
 fn tested<'a>(
     alloc: Global,
     text: &[u8],

@@ -71,7 +71,6 @@ fn joined<'a>(
 }
 
 #[cycle(levels)]
-#[inline(never)]
 #[tactic(auto, unfolding(grammar::specs::Repeats::read_step))]
 fn part_step<'a>(
     alloc: Global,

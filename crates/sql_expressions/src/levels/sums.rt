@@ -30,7 +30,6 @@ fn right_operand<'a>(
 }
 
 #[cycle(levels)]
-#[inline(never)]
 #[tactic(auto, unfolding(grammar::specs::Repeats::read_step))]
 fn operand_step<'a>(
     alloc: Global,

@@ -1,4 +1,4 @@
-use Rattle.std.proofs.Common.{◌-◌, ◌+◌, length, arith, sym, subst, ◌∙◌}
+use Rattle.std.proofs.Common.{◌≡◌, ◌-◌, ◌+◌, suc, length, arith, sym, subst, ◌∙◌}
 use Rattle.std.proofs.lemmas.Result.{err_from_is_err_and}
 use Rattle.grammar.specs.Gives.{Refuses}
 use Rattle.grammar.specs.Repeats.{always}
@@ -12,6 +12,7 @@ use Rattle.sql_expressions.specs.Grammar as grammar
 use Rattle.sql_expressions.specs.Levels as levels
 use Rattle.sql_expressions.specs.Views as views
 use Rattle.sql_expressions.proofs.levels.+levels.Goals as goal
+use Rattle.sql_expressions.proofs.levels.+levels.Goals.{climbs::climbed-then-behind_comes+in_ok-after, climbs::climbed-else-behind_comes}
 
 -- one less of the depth that is left
 pub operands::unary-returns-then-nested_comes-clause-reads : goal.operands::unary-returns-then-nested_comes-clause-reads
@@ -28,11 +29,11 @@ negations::inverted_first-returns-clause-reads t c =
 
 pub sums::right_operand-returns-clause-reads : goal.sums::right_operand-returns-clause-reads
 sums::right_operand-returns-clause-reads t c =
-    gives_by _ c.at_level.result _ _ (operand_deeper c.args.text.now c.args.budget (c.args.budget - 1) (omega arith) c.args.tokens.now c.args.chain) c.at_level.ensures.reads
+    gives_by _ c.at_level.result _ _ (operand_deeper c.args.text.now c.args.budget (c.args.budget - 1) (omega arith) c.args.tokens.now c.args.chain _ c.operand_level.ensures) c.at_level.ensures.reads
 
 pub conjunctions::right_part-returns-clause-reads : goal.conjunctions::right_part-returns-clause-reads
 conjunctions::right_part-returns-clause-reads t c =
-    gives_by _ c.at_level.result _ _ (part_deeper c.args.text.now c.args.budget (c.args.budget - 1) (omega arith) c.args.tokens.now c.args.joint) c.at_level.ensures.reads
+    gives_by _ c.at_level.result _ _ (part_deeper c.args.text.now c.args.budget (c.args.budget - 1) (omega arith) c.args.tokens.now c.args.joint _ c.part_level.ensures) c.at_level.ensures.reads
 
 pub comparisons::maybe_tested-returns-clause-reads : goal.comparisons::maybe_tested-returns-clause-reads
 comparisons::maybe_tested-returns-clause-reads t c =
@@ -125,7 +126,7 @@ climbs::at_level-returns-clause-reads t c =
 
 -- behind a NOT
 pub climbs::inverted_level-inverted_first-requires : goal.climbs::inverted_level-inverted_first-requires
-climbs::inverted_level-inverted_first-requires t c = not_begins c.args.level c.args.tokens.now c.requires
+climbs::inverted_level-inverted_first-requires t c = (omega arith, not_begins c.args.level c.args.tokens.now c.requires)
 
 pub climbs::inverted_level-returns-in_err-rest-clause-reads : goal.climbs::inverted_level-returns-in_err-rest-clause-reads
 climbs::inverted_level-returns-in_err-rest-clause-reads t c =
@@ -139,30 +140,27 @@ climbs::inverted_level-returns-clause-reads t c =
     c.climbed.ensures.reads
 
 -- one place after another
-pub climbs::climbed-returns-then-behind_comes-in_err-after-clause-reads : goal.climbs::climbed-returns-then-behind_comes-in_err-after-clause-reads
-climbs::climbed-returns-then-behind_comes-in_err-after-clause-reads t c =
+pub climbs::climbed-returns-in_err-after-clause-reads : goal.climbs::climbed-returns-in_err-after-clause-reads
+climbs::climbed-returns-in_err-after-clause-reads t c =
     let p = err_from_is_err_and c.from_residual.result c.from_residual.ensures.1 in
     rw (p.1, p.2) (subst (Refuses c.in_err-after.field-0.0) c.loop-place.invariant.reads
     (step_refuses c.args.text.now c.args.budget c.loop-place.place (c.loop-place.place + 1) (views.reach c.args.level - c.loop-place.place) (views.reach c.args.level - (c.loop-place.place + 1))
     (omega (arith, c.loop-place-test.true, c.reach-place-end.ensures)) (omega arith) _ c.behind_at-behind.ensures _ _ c.in_err-after.field-0.0 c.in_err-after.ensures.reads))
 
 pub climbs::climbed-loop-place-preserved : goal.climbs::climbed-loop-place-preserved
-climbs::climbed-loop-place-preserved t c = record {
-  reads =
-      step_skips c.args.text.now c.args.budget c.loop-place.place (c.loop-place.place + 1) (views.reach c.args.level - c.loop-place.place) (views.reach c.args.level - (c.loop-place.place + 1))
-      (omega (arith, c.loop-place-test.true, c.reach-place-end.ensures)) (omega arith) _ c.behind_at-behind.ensures _ _ (sym c.behind_comes.ensures ∙ c.if-behind_comes.false)
-      ∙ c.loop-place.invariant.reads;
-  within = c.loop-place.invariant.within;
-}
-
-pub climbs::climbed-loop-place-preserved-then-behind_comes : goal.climbs::climbed-loop-place-preserved-then-behind_comes
-climbs::climbed-loop-place-preserved-then-behind_comes t c = record {
-  reads =
-      step_reads c.args.text.now c.args.budget c.loop-place.place (c.loop-place.place + 1) (views.reach c.args.level - c.loop-place.place) (views.reach c.args.level - (c.loop-place.place + 1))
-      (omega (arith, c.loop-place-test.true, c.reach-place-end.ensures)) (omega arith) _ c.behind_at-behind.ensures _ _ _ _ c.in_ok-after.ensures.reads
-      ∙ c.loop-place.invariant.reads;
-  within = c.in_ok-after.ensures.within;
-}
+climbs::climbed-loop-place-preserved t c =
+    let left_over : views.reach c.args.level - c.loop-place.place ≡ suc (views.reach c.args.level - (c.loop-place.place + 1)) = omega (arith, c.loop-place-test.true, c.reach-place-end.ensures) in
+    let next : c.loop-place.place + 1 ≡ suc c.loop-place.place = omega arith in
+    elim c.if-behind_comes.branch [
+      | climbs::climbed-then-behind_comes+in_ok-after w ↦
+          let there = step_reads c.args.text.now c.args.budget c.loop-place.place (c.loop-place.place + 1) (views.reach c.args.level - c.loop-place.place) (views.reach c.args.level - (c.loop-place.place + 1))
+          left_over next _ c.behind_at-behind.ensures _ _ _ _ w.in_ok-after.ensures.reads in
+          rw (w.left-is, w.rest-is) (record { reads = there ∙ c.loop-place.invariant.reads; within = w.in_ok-after.ensures.within })
+      | climbs::climbed-else-behind_comes w ↦
+          let skipped = step_skips c.args.text.now c.args.budget c.loop-place.place (c.loop-place.place + 1) (views.reach c.args.level - c.loop-place.place) (views.reach c.args.level - (c.loop-place.place + 1))
+          left_over next _ c.behind_at-behind.ensures _ _ (sym c.behind_comes.ensures ∙ w.if-behind_comes.false) in
+          rw (w.left-is, w.rest-is) (record { reads = skipped ∙ c.loop-place.invariant.reads; within = c.loop-place.invariant.within })
+    ]
 
 pub climbs::climbed-returns-clause-reads : goal.climbs::climbed-returns-clause-reads
 climbs::climbed-returns-clause-reads t c =

@@ -105,7 +105,7 @@ decreases-comparisons::tested l = 32 * l.below + 24
 -- the rest is read from where the loop stands
 abbrev pub invariant-climbs::climbed-loop-place : goal.invariant-climbs::climbed-loop-place
 invariant-climbs::climbed-loop-place l = record {
-  reads : views.climbed l.text l.budget l.place (views.reach l.level - l.place) (views.deep l.left) l.rest ≡ views.climbed l.text l.budget l.from (views.reach l.level - l.from) (views.deep l.fn.left) l.fn.tokens;
+  reads : views.climbed l.text l.budget l.place (views.reach l.fn.level - l.place) (views.deep l.left) l.rest ≡ views.climbed l.text l.budget l.from (views.reach l.fn.level - l.from) (views.deep l.fn.left) l.fn.tokens;
   within : l.left.depth ≤ l.budget;
 }
 
