@@ -52,6 +52,9 @@ KINDS = {
     "cancels": {"select": 3, "insert": 4, "delete": 4, "lock": 4, "cancel": 5},
     "joins": {"join": 12, "select": 1, "lock": 4, "insert": 4, "delete": 1, "setting": 2},
     "hashed": {"join": 9, "plan": 6, "insert": 4, "update": 2, "delete": 2, "lock": 1, "setting": 3, "mode": 1},
+    "sorted": {
+        "plan": 6, "select": 6, "insert": 4, "update": 3, "delete": 2, "lock": 1, "setting": 2, "mode": 1, "detach": 1, "partition": 1,
+    },
     "prunes": {"select": 9, "lock": 6, "insert": 3, "setting": 2},
     "plans": {"plan": 12, "select": 1, "lock": 3, "insert": 2, "setting": 2, "attach": 2, "detach": 1, "partition": 1},
     "pruned": {"select": 1, "insert": 2, "delete": 5, "update": 9, "lock": 5, "setting": 2},
@@ -103,7 +106,7 @@ class Maker:
         self.tables, self.parents, self.plain, self.keys = [], {}, [], []
         self.free = self.numbers.of((0, 1, 2, 2)) if self.default_chance() else self.numbers.of((2, 2, None))
         self.free_bound, self.own_bounds, self.cut_off = "", {}, ""
-        self.prepares, self.has_all = kind in ("prepared", "generic", "analyzed", "hashed"), False
+        self.prepares, self.has_all = kind in ("prepared", "generic", "analyzed", "hashed", "sorted"), False
         self.prepared = {}       # by their names: the first words and the kinds of the parameters
 
     # ---- tables
@@ -213,7 +216,8 @@ class Maker:
         if self.prepares and numbers.chance(70):
             self.has_all, kinds = True, kinds + ", d date, c text, f boolean"
         self.tables.append("t")
-        self.setup.append(f"CREATE TABLE t ({kinds})" + self.by("t", numbers.of(("RANGE", "RANGE", "LIST", "HASH")), False) + ";")
+        strategies = ("RANGE",) * (12 if self.kind == "sorted" else 2) + ("LIST", "HASH")
+        self.setup.append(f"CREATE TABLE t ({kinds})" + self.by("t", numbers.of(strategies), False) + ";")
         self.make_children("t")
         for name in ("x", "y"):
             below = ""
@@ -283,7 +287,7 @@ class Maker:
         numbers = self.numbers
         if self.kind == "above" and numbers.chance(45):
             return ""
-        if numbers.chance(60 if self.kind in ("rows", "updates", "above") else 35):
+        if numbers.chance(60 if self.kind in ("rows", "updates", "above") else 12 if self.kind == "sorted" else 35):
             return f" WHERE a = {numbers.of(self.keys)}"
         return numbers.of((
             "", f" WHERE a = {numbers.below(16)}", f" WHERE a < {numbers.of((5, 10, 15))}", f" WHERE v = {numbers.below(4)}",
@@ -295,9 +299,22 @@ class Maker:
 
     def select(self):
         numbers = self.numbers
+        if self.kind == "sorted":
+            return self.sorted()
         items = numbers.of(("tableoid::regclass, a, v", "a, v", "*", "a"))
         order = numbers.of(("", "", " ORDER BY a", " ORDER BY v DESC, a", " ORDER BY a LIMIT 2"))
         return f"SELECT {items} FROM {self.any_table()}{self.condition()}{order};"
+
+    def sorted(self):
+        """In the order of the table's partitions, mostly."""
+        numbers = self.numbers
+        items = numbers.of(("tableoid::regclass, a, v", "a, v", "*", "a", "v AS a, a AS v", "a + 1 AS n, v", "a, 10 / v AS d"))
+        keys = numbers.of((
+            "a", "a", "a", "a", "a, v", "a, v DESC", "a, tableoid::regclass DESC", "a NULLS LAST, v NULLS FIRST", "1", "v", "v, a", "a DESC",
+            "a NULLS FIRST",
+        ))
+        cut = numbers.of(("", "", "", " LIMIT 2", " OFFSET 1", " LIMIT 1 OFFSET 2"))
+        return f"SELECT {items} FROM {'t' if numbers.chance(75) else self.any_table()}{self.condition()} ORDER BY {keys}{cut};"
 
     def comparison(self, left, right):
         """Of a column of one item with a column of another, or with a value."""
@@ -348,11 +365,11 @@ class Maker:
 
     def plan(self):
         numbers = self.numbers
-        return f"{self.explain()}{self.join() if numbers.chance(50) else self.select()}"
+        return f"{self.explain()}{self.join() if numbers.chance(50 if self.kind != 'sorted' else 10) else self.select()}"
 
     def explain(self):
         numbers = self.numbers
-        if self.kind in ("analyzed", "hashed") and numbers.chance(70 if self.kind == "analyzed" else 40):
+        if self.kind in ("analyzed", "hashed", "sorted") and numbers.chance(70 if self.kind == "analyzed" else 40):
             return f"EXPLAIN {numbers.of(('ANALYZE ', '(ANALYZE) ', '(COSTS OFF, ANALYZE, TIMING OFF) '))}"
         return f"EXPLAIN {numbers.of(('', '', '(COSTS OFF) ', '(TIMING OFF, SUMMARY OFF) '))}"
 
@@ -564,7 +581,7 @@ class Maker:
         """The blocks of a session, in the order in which it runs them."""
         numbers, found, is_open = self.numbers, [], False
         self.prepared = {}
-        if self.kind in ("generic", "analyzed", "hashed") and numbers.chance(80 if self.kind != "hashed" else 30):
+        if self.kind in ("generic", "analyzed", "hashed", "sorted") and numbers.chance(30 if self.kind in ("hashed", "sorted") else 80):
             found.append("SET plan_cache_mode = force_generic_plan;")
         while len(found) < wanted or is_open:
             begin = numbers.of(("BEGIN;", "BEGIN;", "BEGIN ISOLATION LEVEL REPEATABLE READ;"))
