@@ -13,7 +13,7 @@ RESERVED = set(
 )
 TOKEN = re.compile(
     r"[ \t\n\r\f\v]+|--[^\n\r]*|(?P<word>[A-Za-z_\x80-\U0010ffff][A-Za-z0-9_$\x80-\U0010ffff]*)"
-    r'|(?P<quoted>"(?:[^"]|"")+")|(?P<string>\'(?:[^\']|\'\')*\')|(?P<number>[0-9]+)|(?P<parameter>\$[0-9]+)'
+    r'|(?P<quoted>"(?:[^"]|"")+"(?!"))|(?P<string>\'(?:[^\']|\'\')*\'(?!\'))|(?P<number>[0-9]+)|(?P<parameter>\$[0-9]+)'
     r"|(?P<sign>::|<>|!=|<=|>=|[-+*/%=<>(),.;])"
 )
 LEVELS = ("READ COMMITTED", "READ UNCOMMITTED", "REPEATABLE READ")

@@ -81,8 +81,9 @@ class Bound:
     of values, and the leaf that it lies in (`lying`). A column is known by its item's number and its place, a table by
     its item's number, and a parameter by its own."""
 
-    def __init__(self, kind, of, is_constant, text=None, item=None, place=None, table=None, param=None):
+    def __init__(self, kind, of, is_constant, text=None, item=None, place=None, table=None, param=None, read=None):
         self.kind, self.of, self.is_constant, self.text = kind, of, is_constant, text
+        self.read = read            # (what the string of a literal is read as first)
         self.item, self.place, self.table, self.param = item, place, table, param
 
 
@@ -109,6 +110,7 @@ class Scope:
     def __init__(self, items, user=None, calls=None, params=()):
         self.items, self.user, self.calls, self.params = items, user, calls, params
         self.constants, self.has_tables = [], False     # (`tableoid::regclass` has a place where that is set)
+        self.is_in_condition, self.is_in_key = False, False     # (arithmetic over a column has none in WHERE and ON)
 
     def of_items(self, items):
         """The same, where these items alone may be named."""
@@ -129,7 +131,11 @@ class Scope:
         """A string literal as a value of a kind that its place has given."""
         if bound.kind != "literal":
             return bound
-        return self.constant(Bound(kind, lambda row: read_value(kind, bound.text), True))
+        read = Bound(kind, lambda row: read_value(kind, bound.text), True)
+        if bound.read:
+            return self.constant(read)
+        bound.read.append(read)
+        return read
 
     def called(self, table):
         """The items of that name, all where none is written."""
@@ -157,7 +163,10 @@ class Scope:
             bound = Bound(kind, of_number, True)
             return self.constant(bound) if number >= 2**63 else bound
         if sort == "string":
-            return Bound("literal", lambda row: written[1], True, written[1])
+            # (it is read in its place among the constants, as soon as it has a kind)
+            read = []
+            self.constants.append(lambda: read and read[0].of(None))
+            return Bound("literal", lambda row: written[1], True, written[1], read=read)
         if sort == "date":
             return self.constant(Bound("date", lambda row: read_value("date", written[1]), True))
         if sort == "null":
@@ -213,6 +222,9 @@ class Scope:
 
     def arithmetic(self, written):
         sign, left, right = written[1], self.operand(written[2]), self.operand(written[3])
+        # (what has no place is not asked for its kinds)
+        if self.is_in_condition and not (left.is_constant and right.is_constant):
+            raise Refusal("0A000", f"{sign} is not in this profile")
         left, right = self.kinds_of_arithmetic(sign, left, right)
         kinds = (left.kind, right.kind)
         kind = self.kind_of_arithmetic(sign, *kinds)
@@ -296,10 +308,13 @@ class Scope:
         return self.comparison("=", bound, Bound("boolean", lambda row: True, True))
 
     def in_condition(self, written):
-        bound = self.operand(written)
-        if written[0] == "arithmetic" and not bound.is_constant:
-            raise Refusal("0A000", f"{written[1]} is not in this profile")
-        return bound
+        if self.is_in_key:
+            return self.operand(written)
+        outer, self.is_in_condition = self.is_in_condition, True
+        try:
+            return self.operand(written)
+        finally:
+            self.is_in_condition = outer
 
     def comparison(self, sign, left, right):
         if left.kind == "literal":
