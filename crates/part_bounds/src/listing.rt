@@ -2,7 +2,7 @@
 //! their places, so it holds none of them.
 
 ghost use Rattle.std.specs.List.{list_any};
-ghost use Rattle.std.specs.Prelude.{◌≡◌, ◌≤◌, ◌++◌, ◌∷◌, [], length, slice_index_or, IfOk, OnOk};
+ghost use Rattle.std.specs.Prelude.{◌≡◌, ◌≤◌, ◌++◌, ◌∷◌, [], length, position, slice_index_or, IfOk, OnOk};
 ghost use Rattle.pg_values.specs.declared.value.Value.TheVariants.{Null};
 ghost use Rattle.bound_forms.specs.Points.{point_order, point_of, edge_order, end_of, fill_edge};
 ghost use Rattle.part_bounds.specs.Sorted.{sorted};
@@ -161,11 +161,18 @@ fn has_null(values: &Row) -> bool
 }
 
 // Whether the bound lists NULL.
-pub(crate) fn lists_null(b: &Bound) -> bool
+fn lists_null(b: &Bound) -> bool
     ensures { result ≡ listings.lists_null b.now }
 {
     match b {
         Bound::List { values } => has_null(values),
         _ => false,
     }
+}
+
+/// The child that lists NULL.
+pub(crate) fn null_child(bounds: &[Bound]) -> Option<usize>
+    ensures { result ≡ position listings.lists_null bounds.now }
+{
+    bounds.iter().position(|b| lists_null(b))
 }

@@ -5,11 +5,9 @@ ghost use Rattle.bound_forms.specs.Points.{EdgeOfKind, PointsFit};
 ghost use Rattle.bound_forms.specs.Accepts as accepts_spec;
 ghost use Rattle.bound_forms.specs.Accepts.{accepts_among, FitsBound, FitsSet};
 ghost use Rattle.part_bounds.specs.Stored.{stored, IsRangeLevel, IsListLevel, IsHashLevel};
-ghost use Rattle.part_bounds.specs.Listings as listings;
 
 use crate::counted::{count_points, count_share};
 use crate::level_kind::{is_hash_level, is_range_level};
-use crate::listing::lists_null;
 use crate::stored::search_points;
 use crate::{BoundSet, default_child, points_below};
 use bound_forms::{
@@ -131,20 +129,13 @@ fn list_child<K: KeyKind, Q: Key, L: Ledger>(
     ensures cost { 2 ^ (steps.new - steps.old) ≤ 2 * length (stored set.now) + 2 }
 {
     if has_null(key) {
-        return null_child(set);
+        return set.null_child;
     }
     let found = search_points(set, key, key.len(), Fill::Min, true, steps);
     if found.equal {
         return Some(set.listings[found.below - 1].child);
     }
     None
-}
-
-// The list that has NULL.
-fn null_child<K: KeyKind>(set: &BoundSet<K>) -> Option<usize>
-    ensures { result ≡ position listings.lists_null set.now }
-{
-    set.bounds.iter().position(|b| lists_null(b))
 }
 
 // The remainder that the key's hash leaves. It compares no values.

@@ -1,8 +1,9 @@
-use Rattle.std.proofs.Common.{◌≡◌, Vec, Global, sym, subst}
+use Rattle.std.proofs.Common.{◌≡◌, Vec, Global, sym, ap, subst, ◌∙◌}
 use Rattle.std.specs.List.{All}
+use Rattle.std.specs.Prelude.{position}
 use Rattle.bound_forms.specs.declared.partition_bound.Bound.{Bound}
 use Rattle.bound_forms.specs.Bounds.{BoundOfKind, IsInPlainOrder}
-use Rattle.part_bounds.specs.Listings.{StandsFor}
+use Rattle.part_bounds.specs.Listings.{StandsFor, lists_null}
 use Rattle.part_bounds.proofs.bound_set.set_in_order.Goals as goal
 
 pub invariant_of-result : goal.invariant_of-result
@@ -12,4 +13,5 @@ invariant_of-result g c =
       subst (λ (v : Vec Bound Global). All (BoundOfKind (g.K.KeyKind.admits c.args.kind)) v.items) (sym same) (λ k d lt. c.requires.of_kind k d lt c.args.kind),
       subst (λ (v : Vec Bound Global). IsInPlainOrder v.items) (sym same) c.requires.ordered,
       rw (same, c.in_ok-listings.ensures.ok) stands,
+      c.null_child-null.ensures ∙ ap (position lists_null) (c.deref-2.ensures.value ∙ ap (λ (v : Vec Bound Global). v.items) (sym same)),
     )

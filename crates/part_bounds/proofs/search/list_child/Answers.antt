@@ -10,7 +10,7 @@ use Rattle.part_bounds.proofs.Shared.{as_long}
 use Rattle.part_bounds.proofs.search.list_child.Goals as goal
 
 pub returns-then-has_null-clause-child : goal.returns-then-has_null-clause-child
-returns-then-has_null-clause-child g c = c.null_child.ensures ∙ list_null c.args.set.now (g.Q.Key.values c.args.key.now) c.requires.lists c.requires.one (sym c.has_null.ensures ∙ c.if-has_null.true)
+returns-then-has_null-clause-child g c = (rw c.set.view_is at c.set.invariant.3) ∙ list_null c.args.set.now (g.Q.Key.values c.args.key.now) c.requires.lists c.requires.one (sym c.has_null.ensures ∙ c.if-has_null.true)
 
 pub search_points-found-requires-clause-level : goal.search_points-found-requires-clause-level
 search_points-found-requires-clause-level g c = lists_have_points c.args.set.now c.requires.lists
