@@ -124,8 +124,11 @@ maybe_tested text n x = level.maybe_tested (below n) (any text) (freed text (und
 abbrev pub among : level.Rules → Bool → level.Deep → Rule Token level.Deep
 among below is_not x = as_value (level.in_value is_not x) (a word.In >> a word.OpenParenthesis >> level.list_of below.expression << a word.CloseParenthesis)
 
+abbrev pub bounds : level.Rules → Rule Token (level.Deep × level.Deep)
+bounds below = a word.Between >> below.sum & a word.And >> below.sum
+
 abbrev pub within_bounds : level.Rules → Bool → level.Deep → Rule Token level.Deep
-within_bounds below is_not x = as_value (level.between_value is_not x) (a word.Between >> below.sum & a word.And >> below.sum)
+within_bounds below is_not x = as_value (level.between_value is_not x) (bounds below)
 
 -- a comparison
 abbrev pub maybe_compared : List ℕ → ℕ → level.Deep → Rule Token level.Deep

@@ -5,7 +5,7 @@ ghost use Rattle.sql_expressions.specs.Grammar as grammar;
 ghost use Rattle.sql_expressions.specs.Levels as levels;
 ghost use Rattle.sql_expressions.specs.Views as views;
 
-use crate::deep::{Deep, Parts, between, discard_parts, in_list, join, no_parts, unread};
+use crate::deep::{Deep, Parts, between, discard, discard_parts, in_list, join, no_parts, unread};
 use crate::levels::calls::items;
 use crate::levels::climbs::at_level;
 use crate::signs::{Level, comparison_comes, operator_of, sign, test_comes};
@@ -137,13 +137,39 @@ fn within_bounds<'a>(
     ensures reads { Gives (λ rest. (views.deep left.new, rest.now)) result ((views.within_bounds (grammar.rules text.now below) is_not (views.deep left.old)).read tokens.now) }
     ensures within { IfOk result (λ rest. left.new.depth ≤ below + 1) }
 {
-    let (_, rest) = word(tokens, TokenKind::Between)?;
     let mut from = unread();
-    let rest = at_level(alloc, text, Level::Sum, &mut from, rest, below)?;
-    let (_, rest) = word(rest, TokenKind::And)?;
     let mut to = unread();
-    let rest = at_level(alloc, text, Level::Sum, &mut to, rest, below)?;
-    between(alloc, is_not, left, from, to)?;
+    match bounds(alloc, text, &mut from, &mut to, tokens, below) {
+        Ok(rest) => {
+            between(alloc, is_not, left, from, to)?;
+            Ok(rest)
+        }
+        Err(refused) => {
+            discard(from);
+            discard(to);
+            Err(refused)
+        }
+    }
+}
+
+/// BETWEEN, a sum, AND, and another sum.
+#[cycle(levels)]
+fn bounds<'a>(
+    alloc: Global,
+    text: &[u8],
+    from: &mut Deep,
+    to: &mut Deep,
+    tokens: &'a [Token],
+    below: u8,
+) -> Result<&'a [Token], Refused>
+    requires { below < 255 }
+    ensures reads { Gives (λ rest. ((views.deep from.new, views.deep to.new), rest.now)) result ((views.bounds (grammar.rules text.now below)).read tokens.now) }
+    ensures within { IfOk result (λ rest. (from.new.depth ≤ below) × (to.new.depth ≤ below)) }
+{
+    let (_, rest) = word(tokens, TokenKind::Between)?;
+    let rest = at_level(alloc, text, Level::Sum, from, rest, below)?;
+    let (_, rest) = word(rest, TokenKind::And)?;
+    let rest = at_level(alloc, text, Level::Sum, to, rest, below)?;
     Ok(rest)
 }
 

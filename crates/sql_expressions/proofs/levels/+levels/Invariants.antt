@@ -67,7 +67,10 @@ abbrev pub decreases-comparisons::compared : goal.decreases-comparisons::compare
 decreases-comparisons::compared l = 32 * l.below + 18
 
 abbrev pub decreases-comparisons::within_bounds : goal.decreases-comparisons::within_bounds
-decreases-comparisons::within_bounds l = 32 * l.below + 18
+decreases-comparisons::within_bounds l = 32 * l.below + 19
+
+abbrev pub decreases-comparisons::bounds : goal.decreases-comparisons::bounds
+decreases-comparisons::bounds l = 32 * l.below + 18
 
 abbrev pub decreases-operands::nested : goal.decreases-operands::nested
 decreases-operands::nested l = 32 * l.below + 18
