@@ -1,6 +1,6 @@
 -- The scans among the lines of a plan.
 use Rattle.std.proofs.Common.{◌≡◌, ℕ, zero, suc, ◌+◌, ◌-◌, ◌*◌, ◌==◌, ◌&&◌, ◌||◌, arith, length, Bool, true, false, if◌then◌else◌, List, [], ◌∷◌, ◌++◌, map, replicate, refl, sym, ap, ◌∙◌, append-nil, append_assoc}
-use Rattle.std.specs.Prelude.{None, codes, decimal}
+use Rattle.std.specs.Prelude.{Option, Some, None, codes, decimal}
 use Rattle.std.specs.List.{flat_map, list_any}
 use Rattle.std.proofs.lemmas.List.{map-append}
 use Rattle.std.proofs.lemmas.List.Concat.{flat_map-append}
@@ -8,7 +8,8 @@ use Rattle.cond_logic.specs.declared.select.SortKey.{SortKey}
 use Rattle.cond_logic.specs.Asked.{OutputTree, SelectMeant}
 use Rattle.cond_logic.specs.Tables.{Leaf}
 use Rattle.plan_tree.specs.OrderedAppends.{parts_joined, sorted_parts}
-use Rattle.plan_tree.specs.Plans.{PlannedItem, Planned, is_none, keeps_none, is_empty, scan_conjuncts, hash_conds, join_filter}
+use Rattle.plan_tree.specs.Counts.{given_count}
+use Rattle.plan_tree.specs.Plans.{PlannedItem, Planned, Pair, both as items_of, behind, paired, unpaired, scanned_items, is_none, keeps_none, is_empty, scan_conjuncts, hash_conds, join_filter}
 use Rattle.plan_tree.specs.declared.join_kind.JoinKind.{JoinKind}
 use Rattle.plan_tree.specs.declared.join_kind.JoinKind.TheVariants.{NestedLoop, HashJoin}
 use Rattle.plan_tree.proofs.OrderedParts.{AreAll, parts_are_all}
@@ -16,7 +17,7 @@ use Rattle.plan_text.specs.declared.named_item.NamedItem.{NamedItem}
 use Rattle.plan_text.specs.Conditions.{several}
 use Rattle.plan_text.specs.Names.{alias_behind}
 use Rattle.plan_text.specs.Nodes.{Node, arrow, detail_line, alone, over, each, both}
-use Rattle.plan_text.specs.Plans.{Counts, detail, filters, join_details, scan_text, scan, scans, is_one_scan, removed_detail, item_scans, item, join_text, join, joined, result, items, rows, sort_detail, sorted, part_scans, sorted_part, ordered_append, in_order, limited}
+use Rattle.plan_text.specs.Plans.{Counts, detail, filters, join_details, scan_text, scan, scans, is_one_scan, removed_detail, item_scans, item, join_text, join, joined, joins, never, pair_joins, all_joins, items, rows, sort_detail, sorted, part_scans, sorted_part, ordered_append, in_order, limited}
 use Rattle.plan_text.specs.ScanLines.{unspaced, following, first_or, behind_arrow, scan_in, item_leaves, plan_leaves, ScansAreOfTheLeaves}
 
 -- ---- a line
@@ -171,12 +172,37 @@ module _ (ns : List NamedItem) where
   items_scan [] d = alone_scans (codes "Result") [] d result_is tt
   items_scan (i ∷ is) d = joined_scan is (item ns unrun i) (item_leaves ns i) (item_scan i) d
 
+  joins_scan : (is : List PlannedItem) (d : ℕ) → flat_map scan_in (joins ns unrun is d) ≡ flat_map (item_leaves ns) is
+  joins_scan [] d = refl
+  joins_scan (i ∷ is) d = joined_scan is (item ns unrun i) (item_leaves ns i) (item_scan i) d
+
+  -- ---- pairs
+
+  each_scan : (ps : List Pair) (d : ℕ) → flat_map scan_in (each (λ p. joins ns unrun (items_of p)) ps d) ≡ flat_map (item_leaves ns) (flat_map items_of ps)
+  each_scan [] d = refl
+  each_scan (p ∷ ps) d =
+      flat_map-append scan_in (joins ns unrun (items_of p) d) (each (λ q. joins ns unrun (items_of q)) ps d)
+      ∙ ap (λ l. l ++ flat_map scan_in (each (λ q. joins ns unrun (items_of q)) ps d)) (joins_scan (items_of p) d)
+      ∙ ap (λ l. flat_map (item_leaves ns) (items_of p) ++ l) (each_scan ps d)
+      ∙ sym (flat_map-append (item_leaves ns) (items_of p) (flat_map items_of ps))
+
+  pairs_scan : (ps : List Pair) (d : ℕ) → flat_map scan_in (pair_joins ns unrun ps d) ≡ flat_map (item_leaves ns) (flat_map items_of ps)
+  pairs_scan [] d = alone_scans (codes "Result") (codes "One-Time Filter: false" ∷ []) d result_is (refl, tt)
+  pairs_scan (p ∷ []) d = joins_scan (items_of p) d
+  pairs_scan (p ∷ q ∷ ps) d =
+      over_scans (codes "Append") [] (each (λ r. joins ns unrun (items_of r)) (p ∷ q ∷ ps)) (flat_map (item_leaves ns) (flat_map items_of (p ∷ q ∷ ps))) append_is tt (each_scan (p ∷ q ∷ ps)) d
+
+  all_joins_scan : (ps : Option (List Pair)) (is : List PlannedItem) (d : ℕ) → flat_map scan_in (all_joins ns unrun ps is d) ≡ flat_map (item_leaves ns) (paired ps ++ is)
+  all_joins_scan None is d = items_scan is d
+  all_joins_scan (Some ps) is d =
+      joined_scan is (pair_joins ns unrun ps) (flat_map (item_leaves ns) (flat_map items_of ps)) (pairs_scan ps) d ∙ sym (flat_map-append (item_leaves ns) (flat_map items_of ps) is)
+
   rows_scan : (p : Planned) (d : ℕ) → flat_map scan_in (rows ns unrun p d) ≡ plan_leaves ns p
   rows_scan p d = by (is_empty p)
     where
-      by : (b : Bool) → flat_map scan_in ((if b then result unrun (codes "One-Time Filter: false" ∷ []) else items ns unrun p.items) d) ≡ (if b then [] else flat_map (item_leaves ns) p.items)
+      by : (b : Bool) → flat_map scan_in ((if b then never given_count unrun else all_joins ns unrun p.pairs (unpaired p)) d) ≡ (if b then [] else flat_map (item_leaves ns) (scanned_items p))
       by true = alone_scans (codes "Result") (codes "One-Time Filter: false" ∷ []) d result_is (refl, tt)
-      by false = items_scan p.items d
+      by false = all_joins_scan p.pairs (unpaired p) d
 
   sorted_scan : (os : List OutputTree) (ks : List SortKey) (n : Node) (leaves : List (List ℕ)) → ((d : ℕ) → flat_map scan_in (n d) ≡ leaves) → (d : ℕ) → flat_map scan_in (sorted ns unrun os ks n d) ≡ leaves
   sorted_scan os [] n leaves of_node d = of_node d
@@ -221,24 +247,25 @@ module _ (ns : List NamedItem) where
   one_plan i false is = sym (append-nil (item_leaves ns i))
   one_plan i true is = ap (named i) (no_leaf i.leaves (i.removed == 0) is)
 
-  all_scan : (keys : List (List ℕ)) → AreDetails keys → (p : Planned) (parts : List (List Leaf)) (d : ℕ) → AreAll p.items parts → flat_map scan_in (ordered_append ns unrun keys p.items parts d) ≡ plan_leaves ns p
+  all_scan : (keys : List (List ℕ)) → AreDetails keys → (p : Planned) (parts : List (List Leaf)) (d : ℕ) → AreAll p.pairs p.items parts → flat_map scan_in (ordered_append ns unrun keys p.items parts d) ≡ plan_leaves ns p
   all_scan keys h p parts d all =
       ap (λ is. flat_map scan_in (ordered_append ns unrun keys is parts d)) all.alone
       ∙ ordered_scan keys h all.item parts d
       ∙ ap (named all.item) all.over.whole
       ∙ one_plan all.item (list_any keeps_none (all.item ∷ [])) refl
       ∙ ap (λ is. if list_any keeps_none is then [] else flat_map (item_leaves ns) is) (sym all.alone)
+      ∙ ap (λ ps. if is_empty p then [] else flat_map (item_leaves ns) (paired ps ++ behind ps p.items)) (sym all.unpaired)
 
-  in_order_scan : (m : SelectMeant) (p : Planned) (d : ℕ) → flat_map scan_in (in_order ns unrun m p (sorted_parts m p.items) d) ≡ plan_leaves ns p
-  in_order_scan m p d = by (sorted_parts m p.items) refl
+  in_order_scan : (m : SelectMeant) (p : Planned) (d : ℕ) → flat_map scan_in (in_order ns unrun m p (sorted_parts m p) d) ≡ plan_leaves ns p
+  in_order_scan m p d = by (sorted_parts m p) refl
     where
-      by : (parts : List (List Leaf)) → parts ≡ sorted_parts m p.items → flat_map scan_in (in_order ns unrun m p parts d) ≡ plan_leaves ns p
+      by : (parts : List (List Leaf)) → parts ≡ sorted_parts m p → flat_map scan_in (in_order ns unrun m p parts d) ≡ plan_leaves ns p
       by [] is = sorted_scan m.outputs m.order (rows ns unrun p) (plan_leaves ns p) (rows_scan p) d
-      by (part ∷ parts) is = all_scan (sort_detail ns m.outputs m.order) (refl, tt) p (part ∷ parts) d (parts_are_all m p.items (part ∷ parts) is (omega arith))
+      by (part ∷ parts) is = all_scan (sort_detail ns m.outputs m.order) (refl, tt) p (part ∷ parts) d (parts_are_all m p.pairs p.items (part ∷ parts) is (omega arith))
 
 limited_scan : (is_cut : Bool) (n : Node) (leaves : List (List ℕ)) → ((d : ℕ) → flat_map scan_in (n d) ≡ leaves) → (d : ℕ) → flat_map scan_in (limited unrun is_cut n d) ≡ leaves
 limited_scan false n leaves of_node d = of_node d
 limited_scan true n leaves of_node d = over_scans (codes "Limit") [] n leaves limit_is tt of_node d
 
 pub of_the_leaves : ScansAreOfTheLeaves
-of_the_leaves ns is_cut m p = limited_scan is_cut (in_order ns unrun m p (sorted_parts m p.items)) (plan_leaves ns p) (in_order_scan ns m p) 0
+of_the_leaves ns is_cut m p = limited_scan is_cut (in_order ns unrun m p (sorted_parts m p)) (plan_leaves ns p) (in_order_scan ns m p) 0

@@ -1,10 +1,10 @@
 -- The texts of a plan, part by part.
-use Rattle.std.proofs.Common.{◌≡◌, ℕ, ◌+◌, ◌==◌, ◌<◌, false, List, [], ◌∷◌, ◌++◌, codes, map, drop, take, length, get_or, add-one, arith, refl, sym, ap, ap₂, ◌∙◌, append-nil, append_assoc, true, Result, Ok, Err}
-use Rattle.std.specs.Prelude.{OnOk, Option, option_map}
+use Rattle.std.proofs.Common.{◌≡◌, ℕ, ◌+◌, ◌==◌, ◌<◌, ◌≤◌, Bool, if◌then◌else◌, false, List, [], ◌∷◌, ◌++◌, codes, map, drop, take, length, get_or, add-one, arith, refl, sym, ap, ap₂, ◌∙◌, append-nil, append_assoc, true, Result, Ok, Err}
+use Rattle.std.specs.Prelude.{OnOk, Option, Some, None, option_map}
 use Rattle.std.specs.List.{flat_map}
 use Rattle.std.proofs.Math.Seq.{take-suc}
 use Rattle.std.proofs.lemmas.Bool.Decides.{nat_tests}
-use Rattle.std.proofs.lemmas.List.{flat_map_more, map-append}
+use Rattle.std.proofs.lemmas.List.{flat_map_more, length-map, map-append, take_all}
 use Rattle.std.proofs.lemmas.List.Folds.{flat_map-map}
 use Rattle.cond_logic.specs.declared.cond.Cond.{Cond}
 use Rattle.cond_logic.specs.declared.select.SortKey.{SortKey}
@@ -13,14 +13,14 @@ use Rattle.cond_logic.specs.Tables.{Leaf}
 use Rattle.cond_logic.specs.Conjuncts as conditions
 use Rattle.cond_logic.specs.Trees.{CondTree, CondTrees, no_more, and_more, all_of, any_of, inverted, compares, null_test, known, listed, cond_tree}
 use Rattle.prune_steps.proofs.CondTrees.{parts_step}
-use Rattle.plan_tree.specs.Counts.{join_count, given_count}
+use Rattle.plan_tree.specs.Counts.{join_count, pairs_count, given_count}
 use Rattle.plan_tree.specs.OrderedAppends.{sorted_parts}
-use Rattle.plan_tree.specs.Plans.{PlannedItem, Planned}
+use Rattle.plan_tree.specs.Plans.{PlannedItem, Planned, Pair, both, behind, unpaired, is_empty}
 use Rattle.plan_tree.specs.declared.count.Count.{Count}
 use Rattle.plan_text.specs.declared.named_item.NamedItem.{NamedItem}
 use Rattle.plan_text.specs.Conditions.{conjuncts, all_conjuncts, condition}
-use Rattle.plan_text.specs.Nodes.{Node, counted, alone}
-use Rattle.plan_text.specs.Plans.{Counts, told, join_details, join_text, join, joined, joins, item, rows, sort_detail, sorted, sorted_part, ordered_append, in_order}
+use Rattle.plan_text.specs.Nodes.{Node, counted, alone, each}
+use Rattle.plan_text.specs.Plans.{Counts, told, join_details, join_text, join, joined, joins, item, items, never, result, pair_joins, all_joins, rows, sort_detail, sorted, sorted_part, ordered_append, in_order}
 
 -- ---- the conjuncts of an AND
 
@@ -56,19 +56,97 @@ pub joins_last : (ns : List NamedItem) (c : Counts) (is : List PlannedItem) (i :
 joins_last ns c [] i d some = absurd (omega (arith, some))
 joins_last ns c (j ∷ js) i d some = ap (λ (n : Node). n d) (joined_last ns c (item ns c j) js i)
 
+-- a line is told, and what stands below it
+three_told : (a b e o0 o1 o2 o3 : List (List ℕ)) → o1 ≡ o0 ++ a → o2 ≡ o1 ++ b → o3 ≡ o2 ++ e → o3 ≡ o0 ++ (a ++ (b ++ e))
+three_told a b e o0 o1 o2 o3 head left right = right ∙ ap (λ l. l ++ e) (left ∙ ap (λ l. l ++ b) head) ∙ append_assoc (o0 ++ a) b e ∙ append_assoc o0 a (b ++ e)
+
+abbrev pub join_line : List NamedItem → Counts → PlannedItem → Node
+join_line ns c i = alone (told (join_count i.number i.part) c (join_text i.join)) (join_details ns i)
+
 -- a join is told, the items before and the last
-pub join_told : (ns : List NamedItem) (c : Counts) (is : List PlannedItem) (i : PlannedItem) (all : List PlannedItem) (d : ℕ) (count : Option Count) (text : List ℕ) (o0 o1 o2 o3 details : List (List ℕ)) → 0 < length is → all ≡ is ++ i ∷ []
-    → text ≡ join_text i.join → count ≡ option_map (join_count i.number) c → details ≡ join_details ns i
-    → o1 ≡ o0 ++ alone (counted text count) details d → o2 ≡ o1 ++ joins ns c is (d + 1) → o3 ≡ o2 ++ item ns c i (d + 1) → o3 ≡ o0 ++ joins ns c all d
-join_told ns c is i all d count text o0 o1 o2 o3 details some split kind times asked head left right =
-    let word = join_text i.join in
-    let a = alone (told (join_count i.number) c word) (join_details ns i) d in
-    let b = joins ns c is (d + 1) in
-    let e = item ns c i (d + 1) in
-    let first : o1 ≡ o0 ++ a =
-    head ∙ ap (λ t. o0 ++ alone (counted t count) details d) kind ∙ ap (λ n. o0 ++ alone (counted word n) details d) times ∙ ap (λ x. o0 ++ alone (told (join_count i.number) c word) x d) asked in
-    right ∙ ap (λ l. l ++ e) (left ∙ ap (λ l. l ++ b) first) ∙ append_assoc (o0 ++ a) b e ∙ append_assoc o0 a (b ++ e)
+pub join_told : (ns : List NamedItem) (c : Counts) (is : List PlannedItem) (i : PlannedItem) (all : List PlannedItem) (d : ℕ) (o0 o1 o2 o3 : List (List ℕ)) → 0 < length is → all ≡ is ++ i ∷ []
+    → o1 ≡ o0 ++ join_line ns c i d → o2 ≡ o1 ++ joins ns c is (d + 1) → o3 ≡ o2 ++ item ns c i (d + 1) → o3 ≡ o0 ++ joins ns c all d
+join_told ns c is i all d o0 o1 o2 o3 some split head left right =
+    three_told (join_line ns c i d) (joins ns c is (d + 1)) (item ns c i (d + 1)) o0 o1 o2 o3 head left right
     ∙ ap (λ l. o0 ++ l) (sym (joins_last ns c is i d some) ∙ ap (λ l. joins ns c l d) (sym split))
+
+-- and onto others
+pub onto_told : (ns : List NamedItem) (c : Counts) (n : Node) (is : List PlannedItem) (i : PlannedItem) (all : List PlannedItem) (d : ℕ) (o0 o1 o2 o3 : List (List ℕ)) → all ≡ is ++ i ∷ []
+    → o1 ≡ o0 ++ join_line ns c i d → o2 ≡ o1 ++ joined ns c n is (d + 1) → o3 ≡ o2 ++ item ns c i (d + 1) → o3 ≡ o0 ++ joined ns c n all d
+onto_told ns c n is i all d o0 o1 o2 o3 split head left right =
+    three_told (join_line ns c i d) (joined ns c n is (d + 1)) (item ns c i (d + 1)) o0 o1 o2 o3 head left right
+    ∙ ap (λ l. o0 ++ l) (ap (λ (m : Node). m d) (sym (joined_last ns c n is i)) ∙ ap (λ l. joined ns c n l d) (sym split))
+
+-- ---- pairs
+
+pub pair_told : (ns : List NamedItem) (c : Counts) (p : Pair) (d : ℕ) (o0 o1 o2 o3 : List (List ℕ)) → o1 ≡ o0 ++ join_line ns c p.right d → o2 ≡ o1 ++ item ns c p.left (d + 1) → o3 ≡ o2 ++ item ns c p.right (d + 1)
+    → o3 ≡ o0 ++ joins ns c (both p) d
+pair_told ns c p d o0 o1 o2 o3 head left right = three_told (join_line ns c p.right d) (item ns c p.left (d + 1)) (item ns c p.right (d + 1)) o0 o1 o2 o3 head left right
+
+pub all_pairs_told : {X : Type 0} (ns : List NamedItem) (c : Counts) (f : X → Pair) (xs : List X) (d i : ℕ) (o0 o1 : List (List ℕ)) → length xs ≤ i → o1 ≡ o0 ++ flat_map (λ x. joins ns c (both (f x)) d) (take i xs) → o1 ≡ o0 ++ each (λ p. joins ns c (both p)) (map f xs) d
+all_pairs_told ns c f xs d i o0 o1 past put =
+    put ∙ ap (λ l. o0 ++ flat_map (λ x. joins ns c (both (f x)) d) l) (take_all i xs past) ∙ ap (λ l. o0 ++ l) (sym (flat_map-map (λ p. joins ns c (both p) d) f xs))
+
+-- there is none, one, or more
+module _ {X : Type 0} (ns : List NamedItem) (c : Counts) (f : X → Pair) (d : ℕ) (count : Option Count) where
+  pub no_pair_told : (xs : List X) (o0 o1 : List (List ℕ)) → (length xs == 0) ≡ true → count ≡ option_map (pairs_count (map f xs)) c
+      → o1 ≡ o0 ++ alone (counted (codes "Result") count) (codes "One-Time Filter: false" ∷ []) d → o1 ≡ o0 ++ pair_joins ns c (map f xs) d
+  no_pair_told [] o0 o1 none times put = put ∙ ap (λ n. o0 ++ alone (counted (codes "Result") n) (codes "One-Time Filter: false" ∷ []) d) times
+  no_pair_told (x ∷ xs) o0 o1 none times put = let none_left : length (x ∷ xs) ≡ 0 = grind (arith, nat_tests, none) in absurd (omega (arith, none_left))
+
+  pub one_pair_told : (xs : List X) (x : X) (o0 o1 : List (List ℕ)) → length xs ≡ 1 → x ≡ get_or xs 0 x → o1 ≡ o0 ++ joins ns c (both (f x)) d → o1 ≡ o0 ++ pair_joins ns c (map f xs) d
+  one_pair_told [] x o0 o1 one at put = absurd (omega (arith, one))
+  one_pair_told (y ∷ []) x o0 o1 one at put = put ∙ ap (λ z. o0 ++ joins ns c (both (f z)) d) at
+  one_pair_told (y ∷ z ∷ xs) x o0 o1 one at put = absurd (omega (arith, one))
+
+  pub pairs_told : (xs : List X) (o0 o1 o2 : List (List ℕ)) → (length xs == 0) ≡ false → (length xs ≡ 1 → ⊥) → count ≡ option_map (pairs_count (map f xs)) c
+      → o1 ≡ o0 ++ alone (counted (codes "Append") count) [] d → o2 ≡ o1 ++ each (λ p. joins ns c (both p)) (map f xs) (d + 1) → o2 ≡ o0 ++ pair_joins ns c (map f xs) d
+  pairs_told [] o0 o1 o2 some more times head rest = absurd (cc)
+  pairs_told (x ∷ []) o0 o1 o2 some more times head rest = absurd (more refl)
+  pairs_told (x ∷ y ∷ xs) o0 o1 o2 some more times head rest =
+      let line = alone (counted (codes "Append") count) [] d in
+      let below = each (λ p. joins ns c (both p)) (map f (x ∷ y ∷ xs)) (d + 1) in
+      rest ∙ ap (λ l. l ++ below) head ∙ append_assoc o0 line below ∙ ap (λ n. o0 ++ (alone (counted (codes "Append") n) [] d ++ below)) times
+
+-- ---- all rows
+
+module _ (ns : List NamedItem) (c : Counts) (p : Planned) (b : Bool) (is : b ≡ is_empty p) where
+  pub rows_never : b ≡ true → rows ns c p ≡ never given_count c
+  rows_never none = ap (λ (e : Bool). if e then never given_count c else all_joins ns c p.pairs (unpaired p)) (sym is ∙ none)
+
+  rows_some : b ≡ false → rows ns c p ≡ all_joins ns c p.pairs (unpaired p)
+  rows_some some = ap (λ (e : Bool). if e then never given_count c else all_joins ns c p.pairs (unpaired p)) (sym is ∙ some)
+
+  pub rows_onto : (ps : List Pair) (js : List PlannedItem) → b ≡ false → p.pairs ≡ Some ps → js ≡ unpaired p → rows ns c p ≡ joined ns c (pair_joins ns c ps) js
+  rows_onto ps js some pairs same = rows_some some ∙ ap (λ qs. all_joins ns c qs (unpaired p)) pairs ∙ ap (joined ns c (pair_joins ns c ps)) (sym same)
+
+  pub rows_one_by_one : b ≡ false → p.pairs ≡ None → rows ns c p ≡ items ns c p.items
+  rows_one_by_one some none = rows_some some ∙ ap (λ qs. all_joins ns c qs (behind qs p.items)) none
+
+few_behind : {X : Type 0} (ps : Option X) (is : List PlannedItem) → length (behind ps is) ≤ length is
+few_behind None is = omega arith
+few_behind (Some x) [] = omega arith
+few_behind (Some x) (i ∷ []) = omega arith
+few_behind (Some x) (i ∷ j ∷ is) = omega arith
+
+pub few_unpaired : (p : Planned) → length (unpaired p) ≤ length p.items
+few_unpaired p = few_behind p.pairs p.items
+
+pub few_onto : {X : Type 0} (f : X → PlannedItem) (xs : List X) (p : Planned) (d : ℕ) → map f xs ≡ unpaired p → d + length p.items ≤ 97 → d + length xs ≤ 97
+few_onto f xs p d same few = omega (arith, few, few_unpaired p, ap length same, length-map xs f)
+
+pub few_items : {X : Type 0} (f : X → PlannedItem) (xs ys : List X) (d : ℕ) → ys ≡ xs → d + length (map f xs) ≤ 97 → d + length ys ≤ 99
+few_items f xs ys d same few = omega (arith, few, ap length same, length-map xs f)
+
+-- one by one, where there are any
+module _ {X : Type 0} (ns : List NamedItem) (c : Counts) (f : X → PlannedItem) (n d : ℕ) where
+  pub none_asked : (xs : List X) → n ≡ length xs → (n == 0) ≡ true → items ns c (map f xs) d ≡ result given_count c [] d
+  none_asked [] size none = refl
+  none_asked (x ∷ xs) size none = let zero : n ≡ 0 = grind (arith, nat_tests, none) in absurd (omega (arith, size, zero))
+
+  pub some_asked : (xs : List X) → n ≡ length xs → (n == 0) ≡ false → items ns c (map f xs) d ≡ joins ns c (map f xs) d
+  some_asked [] size some = let zero : (n == 0) ≡ true = grind (arith, nat_tests, size) in absurd (cc)
+  some_asked (x ∷ xs) size some = refl
 
 pub some_items : {X : Type 0} (f : X → PlannedItem) (xs : List X) → (length xs == 0) ≡ false → 0 < length (map f xs)
 some_items f [] none = absurd (cc)
@@ -100,14 +178,14 @@ no_item ns c keys f [] parts d n o size none = sym (append-nil o)
 no_item ns c keys f (i ∷ is) parts d n o size none = let zero : n ≡ 0 = grind (arith, nat_tests, none) in absurd (omega (arith, size, zero))
 
 -- no part is, so all rows are sorted
-pub in_order_none : {X : Type 0} (ns : List NamedItem) (c : Counts) (m : SelectMeant) (p : Planned) (now : X → List Leaf) (xs : List X) (d n : ℕ) (os : List OutputTree) (ks : List SortKey) → map now xs ≡ sorted_parts m p.items → n ≡ length xs → (n == 0) ≡ true
-    → os ≡ m.outputs → ks ≡ m.order → sorted ns c os ks (rows ns c p) d ≡ in_order ns c m p (sorted_parts m p.items) d
+pub in_order_none : {X : Type 0} (ns : List NamedItem) (c : Counts) (m : SelectMeant) (p : Planned) (now : X → List Leaf) (xs : List X) (d n : ℕ) (os : List OutputTree) (ks : List SortKey) → map now xs ≡ sorted_parts m p → n ≡ length xs → (n == 0) ≡ true
+    → os ≡ m.outputs → ks ≡ m.order → sorted ns c os ks (rows ns c p) d ≡ in_order ns c m p (sorted_parts m p) d
 in_order_none ns c m p now [] d n os ks same size none outs order = ap₂ (λ os ks. sorted ns c os ks (rows ns c p) d) outs order ∙ ap (λ parts. in_order ns c m p parts d) same
 in_order_none ns c m p now (x ∷ xs) d n os ks same size none outs order = let zero : n ≡ 0 = grind (arith, nat_tests, none) in absurd (omega (arith, size, zero))
 
 -- each part is
-pub in_order_some : {X : Type 0} (ns : List NamedItem) (c : Counts) (m : SelectMeant) (p : Planned) (now : X → List Leaf) (xs ys : List X) (d n : ℕ) (os : List OutputTree) (ks : List SortKey) (keys : List (List ℕ)) → map now xs ≡ sorted_parts m p.items → n ≡ length xs → (n == 0) ≡ false
-    → os ≡ m.outputs → ks ≡ m.order → keys ≡ sort_detail ns os ks → ys ≡ xs → ordered_append ns c keys p.items (map now ys) d ≡ in_order ns c m p (sorted_parts m p.items) d
+pub in_order_some : {X : Type 0} (ns : List NamedItem) (c : Counts) (m : SelectMeant) (p : Planned) (now : X → List Leaf) (xs ys : List X) (d n : ℕ) (os : List OutputTree) (ks : List SortKey) (keys : List (List ℕ)) → map now xs ≡ sorted_parts m p → n ≡ length xs → (n == 0) ≡ false
+    → os ≡ m.outputs → ks ≡ m.order → keys ≡ sort_detail ns os ks → ys ≡ xs → ordered_append ns c keys p.items (map now ys) d ≡ in_order ns c m p (sorted_parts m p) d
 in_order_some ns c m p now [] ys d n os ks keys same size some outs order keyed lent = absurd (cc)
 in_order_some ns c m p now (x ∷ xs) ys d n os ks keys same size some outs order keyed lent =
     ap₂ (λ keys ps. ordered_append ns c keys p.items (map now ps) d) (keyed ∙ ap₂ (sort_detail ns) outs order) lent ∙ ap (λ parts. in_order ns c m p parts d) same

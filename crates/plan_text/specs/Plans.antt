@@ -1,5 +1,5 @@
 -- The text of a plan (14.1.1 EXPLAIN Basics; 14.1.2 EXPLAIN ANALYZE; 5.11.4 Partition Pruning; EXPLAIN).
-use Rattle.std.specs.Prelude.{ℕ, ◌==◌, Bool, true, false, not, ◌&&◌, ◌||◌, if◌then◌else◌, List, [], ◌∷◌, ◌++◌, Option, option_map, map, filter, length, codes, decimal}
+use Rattle.std.specs.Prelude.{ℕ, ◌==◌, Bool, true, false, not, ◌&&◌, ◌||◌, if◌then◌else◌, List, [], ◌∷◌, ◌++◌, Option, Some, None, option_map, map, filter, length, codes, decimal}
 use Rattle.std.specs.List.{flat_map}
 use Rattle.pg_values.specs.declared.answer.Answer.{Answer}
 use Rattle.pg_values.specs.declared.value.Kind.TheVariants.{Text as KText}
@@ -10,10 +10,10 @@ use Rattle.cond_logic.specs.Asked.{OutputTree, SelectMeant}
 use Rattle.cond_logic.specs.Tables.{Leaf}
 use Rattle.cond_logic.specs.Trees.{CondTree}
 use Rattle.plan_tree.specs.Conjuncts.{lies_within}
-use Rattle.plan_tree.specs.Counts.{PlanCount, scan_count, append_count, join_count, part_count, given_count, answer_count}
+use Rattle.plan_tree.specs.Counts.{PlanCount, scan_count, append_count, join_count, pairs_count, part_count, given_count, answer_count}
 use Rattle.plan_tree.specs.JoinKinds.{is_hash_cond, is_join_filter}
 use Rattle.plan_tree.specs.OrderedAppends.{sorted_parts}
-use Rattle.plan_tree.specs.Plans.{PlannedItem, Planned, is_empty, scan_conjuncts, hash_conds, join_filter}
+use Rattle.plan_tree.specs.Plans.{PlannedItem, Planned, Pair, both as items_of, unpaired, scanned_items, is_empty, scan_conjuncts, hash_conds, join_filter}
 use Rattle.plan_tree.specs.declared.join_kind.JoinKind.{JoinKind}
 use Rattle.plan_tree.specs.declared.join_kind.JoinKind.TheVariants.{NestedLoop, HashJoin}
 use Rattle.plan_tree.specs.declared.count.Count.{Count}
@@ -80,7 +80,7 @@ abbrev pub item_scans : List NamedItem → Counts → PlannedItem → Node
 item_scans ns c i = scans ns c i.number (filters ns i) i.leaves
 
 abbrev pub append : List NamedItem → Counts → PlannedItem → Node
-append ns c i = over (told (append_count i.number) c (codes "Append")) (removed_detail i.removed) (item_scans ns c i)
+append ns c i = over (told (append_count i.number i.part) c (codes "Append")) (removed_detail i.removed) (item_scans ns c i)
 
 abbrev pub item : List NamedItem → Counts → PlannedItem → Node
 item ns c i = if is_one_scan i then item_scans ns c i else append ns c i
@@ -92,28 +92,42 @@ join_text NestedLoop = codes "Nested Loop"
 join_text HashJoin = codes "Hash Join"
 
 abbrev pub join : List NamedItem → Counts → (left : Node) → PlannedItem → Node
-join ns c left i = over (told (join_count i.number) c (join_text i.join)) (join_details ns i) (both left (item ns c i))
+join ns c left i = over (told (join_count i.number i.part) c (join_text i.join)) (join_details ns i) (both left (item ns c i))
 
 -- items are joined from the left
 abbrev pub joined : List NamedItem → Counts → (left : Node) → List PlannedItem → Node
 joined ns c left [] = left
 joined ns c left (i ∷ is) = joined ns c (join ns c left i) is
 
-abbrev pub result : Counts → (details : List (List ℕ)) → Node
-result c = alone (told given_count c (codes "Result"))
-
 abbrev pub joins : List NamedItem → Counts → List PlannedItem → Node
 joins ns c [] d = []
 joins ns c (i ∷ is) d = joined ns c (item ns c i) is d
 
+abbrev pub result : (count : PlanCount → Count) → Counts → (details : List (List ℕ)) → Node
+result count c = alone (told count c (codes "Result"))
+
+-- where no leaf is kept
+abbrev pub never : (count : PlanCount → Count) → Counts → Node
+never count c = result count c (codes "One-Time Filter: false" ∷ [])
+
 -- without FROM there is a result alone
 abbrev pub items : List NamedItem → Counts → List PlannedItem → Node
-items ns c [] = result c []
+items ns c [] = result given_count c []
 items ns c (i ∷ is) = joins ns c (i ∷ is)
+
+-- a partitionwise join is an Append of the joins of its pairs; one stands by itself, and for none a result
+abbrev pub pair_joins : List NamedItem → Counts → List Pair → Node
+pair_joins ns c [] = never (pairs_count []) c
+pair_joins ns c (p ∷ []) = joins ns c (items_of p)
+pair_joins ns c (p ∷ q ∷ ps) = over (told (pairs_count (p ∷ q ∷ ps)) c (codes "Append")) [] (each (λ r. joins ns c (items_of r)) (p ∷ q ∷ ps))
+
+abbrev pub all_joins : List NamedItem → Counts → Option (List Pair) → List PlannedItem → Node
+all_joins ns c None is = items ns c is
+all_joins ns c (Some pairs) is = joined ns c (pair_joins ns c pairs) is
 
 -- where an item keeps no leaf nothing is read
 abbrev pub rows : List NamedItem → Counts → Planned → Node
-rows ns c p = if is_empty p then result c (codes "One-Time Filter: false" ∷ []) else items ns c p.items
+rows ns c p = if is_empty p then never given_count c else all_joins ns c p.pairs (unpaired p)
 
 -- ---- ORDER BY, LIMIT and OFFSET
 
@@ -148,7 +162,7 @@ limited c true n = over (told answer_count c (codes "Limit")) [] n
 
 -- the plan of a SELECT over items of these names, with what was counted if it was run; its rows are cut, or not
 abbrev pub plan : List NamedItem → Counts → (is_cut : Bool) → SelectMeant → Planned → Node
-plan ns c is_cut m p = limited c is_cut (in_order ns c m p (sorted_parts m p.items))
+plan ns c is_cut m p = limited c is_cut (in_order ns c m p (sorted_parts m p))
 
 abbrev pub plan_lines : List NamedItem → Counts → (is_cut : Bool) → SelectMeant → Planned → List (List ℕ)
 plan_lines ns c is_cut m p = plan ns c is_cut m p 0
@@ -164,4 +178,4 @@ plan_table lines = record { names = codes "QUERY PLAN" ∷ []; kinds = KText ∷
 
 -- the leaves under the scans of a plan, in order
 abbrev pub scanned : Planned → List Leaf
-scanned p = if is_empty p then [] else flat_map (λ i. i.leaves) p.items
+scanned p = if is_empty p then [] else flat_map (λ i. i.leaves) (scanned_items p)

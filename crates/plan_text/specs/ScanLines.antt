@@ -2,7 +2,7 @@
 use Rattle.std.specs.Prelude.{◌≡◌, ℕ, ◌==◌, Bool, if◌then◌else◌, List, [], ◌∷◌, ◌++◌, None, map, codes}
 use Rattle.std.specs.List.{flat_map}
 use Rattle.cond_logic.specs.Asked.{SelectMeant}
-use Rattle.plan_tree.specs.Plans.{PlannedItem, Planned, is_empty}
+use Rattle.plan_tree.specs.Plans.{PlannedItem, Planned, scanned_items, is_empty}
 use Rattle.plan_text.specs.declared.named_item.NamedItem.{NamedItem}
 use Rattle.plan_text.specs.Names.{alias_behind}
 use Rattle.plan_text.specs.Plans.{plan_lines}
@@ -38,7 +38,7 @@ abbrev pub item_leaves : List NamedItem → PlannedItem → List (List ℕ)
 item_leaves ns i = map (λ leaf. leaf.name ++ alias_behind ns i.number) i.leaves
 
 abbrev pub plan_leaves : List NamedItem → Planned → List (List ℕ)
-plan_leaves ns p = if is_empty p then [] else flat_map (item_leaves ns) p.items
+plan_leaves ns p = if is_empty p then [] else flat_map (item_leaves ns) (scanned_items p)
 
 -- the lines that are scans tell the leaves of the plan, in order, where it is not run
 abbrev pub ScansAreOfTheLeaves : Type 0

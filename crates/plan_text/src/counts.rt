@@ -1,12 +1,13 @@
 //! What was counted of the nodes of a plan that was run.
 
-ghost use Rattle.std.specs.Prelude.{◌≡◌, option_map};
+ghost use Rattle.std.specs.Prelude.{◌≡◌, map, option_map};
 ghost use Rattle.cond_logic.specs.Tuples.{lent};
 ghost use Rattle.plan_tree.specs.Counts as spec;
+ghost use Rattle.plan_tree.specs.Plans.{planned_item, planned_pair};
 
 use cond_logic::NamedLeaf;
 use pg_values::LeafId;
-use plan_tree::{Count, PlanCounts};
+use plan_tree::{Count, PlanCounts, PlanItem, PlanPair};
 
 /// Of the scan of a leaf.
 pub(crate) fn of_scan(counts: Option<&PlanCounts>, item: u32, leaf: LeafId) -> Option<Count>
@@ -19,8 +20,8 @@ pub(crate) fn of_scan(counts: Option<&PlanCounts>, item: u32, leaf: LeafId) -> O
 }
 
 /// Of an item's Append.
-pub(crate) fn of_append(counts: Option<&PlanCounts>, item: u32) -> Option<Count>
-    ensures { result ≡ option_map (spec.append_count item) (lent counts.entry) }
+pub(crate) fn of_append(counts: Option<&PlanCounts>, item: &PlanItem<'_>) -> Option<Count>
+    ensures { result ≡ option_map (spec.append_count (planned_item item.now).number (planned_item item.now).part) (lent counts.entry) }
 {
     match counts {
         None => None,
@@ -29,12 +30,22 @@ pub(crate) fn of_append(counts: Option<&PlanCounts>, item: u32) -> Option<Count>
 }
 
 /// Of the join of an item with those before it.
-pub(crate) fn of_join(counts: Option<&PlanCounts>, item: u32) -> Option<Count>
-    ensures { result ≡ option_map (spec.join_count item) (lent counts.entry) }
+pub(crate) fn of_join(counts: Option<&PlanCounts>, item: &PlanItem<'_>) -> Option<Count>
+    ensures { result ≡ option_map (spec.join_count (planned_item item.now).number (planned_item item.now).part) (lent counts.entry) }
 {
     match counts {
         None => None,
         Some(counts) => Some(counts.of_join(item)),
+    }
+}
+
+/// Of an Append of the joins of pairs, and of a Result in the place of none.
+pub(crate) fn of_pairs(counts: Option<&PlanCounts>, pairs: &[PlanPair<'_>]) -> Option<Count>
+    ensures { result ≡ option_map (spec.pairs_count (map planned_pair pairs.now)) (lent counts.entry) }
+{
+    match counts {
+        None => None,
+        Some(counts) => Some(counts.of_pairs(pairs)),
     }
 }
 

@@ -1,19 +1,21 @@
-ghost use Rattle.std.specs.Prelude.{◌≡◌, ◌≤◌, ◌+◌, ◌++◌, ◌∷◌, [], OnOk, IfOk, length, map};
+ghost use Rattle.std.specs.Prelude.{◌≡◌, ◌≤◌, ◌+◌, ◌++◌, ◌∷◌, [], OnOk, IfOk, codes, length, map};
 ghost use Rattle.std.specs.List.{flat_map};
 ghost use Rattle.cond_logic.specs.Asked.{output_tree, select_meant};
 ghost use Rattle.cond_logic.specs.Tuples.{lent};
 ghost use Rattle.plan_tree.specs.OrderedAppends.{sorted_parts};
-ghost use Rattle.plan_tree.specs.Plans.{planned, planned_item};
+ghost use Rattle.plan_tree.specs.Counts.{join_count};
+ghost use Rattle.plan_tree.specs.Plans.{both, planned, planned_item, planned_pair};
+ghost use Rattle.plan_text.specs.Nodes.{alone, counted, each};
 ghost use Rattle.plan_text.specs.Plans as plans;
 
 use crate::NamedItem;
-use crate::counts::{of_answer, of_given, of_join};
+use crate::counts::{of_answer, of_given, of_join, of_pairs};
 use crate::keys::write_keys;
 use crate::nodes::push_node;
 use crate::scans::{join_details, push_item, push_part};
 use cond_logic::{NamedLeaf, Output, SelectAsk, SortKey};
 use pg_values::{Answer, Kind, KindList, NameList, NoMemory, PgText, Row, RowList, Value};
-use plan_tree::{JoinKind, Plan, PlanCounts, PlanItem};
+use plan_tree::{Count, JoinKind, Plan, PlanCounts, PlanItem, PlanPair};
 use std::alloc::Global;
 
 // ---- items
@@ -25,6 +27,23 @@ fn join_text(join: JoinKind) -> &'static [u8]
         JoinKind::NestedLoop => b"Nested Loop",
         JoinKind::HashJoin => b"Hash Join",
     }
+}
+
+// The line of the join of an item with those before it.
+fn push_join(
+    alloc: Global,
+    items: &[NamedItem],
+    counts: Option<&PlanCounts>,
+    item: &PlanItem<'_>,
+    depth: usize,
+    out: &mut Vec<PgText>,
+) -> Result<(), NoMemory>
+    requires { depth ≤ 100 }
+    ensures { OnOk result (out.new.items ≡ out.old.items ++ alone (plans.told (join_count (planned_item item.now).number (planned_item item.now).part) (lent counts.entry) (plans.join_text item.now.join)) (plans.join_details items.now (planned_item item.now)) depth) }
+{
+    let details = join_details(alloc, items, item)?;
+    let count = of_join(counts, item);
+    push_node(alloc, depth, join_text(item.join), count, &details, out)
 }
 
 // Items that are joined from the left: the last with all before it.
@@ -45,13 +64,29 @@ fn push_joined(
             if before.is_empty() {
                 return push_item(alloc, items, counts, last, depth, out);
             }
-            let details = join_details(alloc, items, last)?;
-            let count = of_join(counts, last.number);
-            push_node(alloc, depth, join_text(last.join), count, &details, out)?;
+            push_join(alloc, items, counts, last, depth, out)?;
             push_joined(alloc, items, counts, before, depth + 1, out)?;
             push_item(alloc, items, counts, last, depth + 1, out)
         }
     }
+}
+
+// Without FROM there is a result alone.
+fn push_items(
+    alloc: Global,
+    items: &[NamedItem],
+    counts: Option<&PlanCounts>,
+    joined: &[PlanItem<'_>],
+    depth: usize,
+    out: &mut Vec<PgText>,
+) -> Result<(), NoMemory>
+    requires { depth + length joined.now ≤ 99 }
+    ensures { OnOk result (out.new.items ≡ out.old.items ++ plans.items items.now (lent counts.entry) (map planned_item joined.now) depth) }
+{
+    if joined.is_empty() {
+        return push_node(alloc, depth, b"Result", of_given(counts), &[], out);
+    }
+    push_joined(alloc, items, counts, joined, depth, out)
 }
 
 fn one(alloc: Global, text: PgText) -> Result<Vec<PgText>, NoMemory>
@@ -62,6 +97,100 @@ fn one(alloc: Global, text: PgText) -> Result<Vec<PgText>, NoMemory>
     Ok(texts)
 }
 
+// Where no leaf is kept.
+fn push_never(
+    alloc: Global,
+    count: Option<Count>,
+    depth: usize,
+    out: &mut Vec<PgText>,
+) -> Result<(), NoMemory>
+    requires { depth ≤ 100 }
+    ensures { OnOk result (out.new.items ≡ out.old.items ++ alone (counted (codes "Result") count) (codes "One-Time Filter: false" ∷ []) depth) }
+{
+    let never = one(alloc, PgText::from_bytes(alloc, b"One-Time Filter: false")?)?;
+    push_node(alloc, depth, b"Result", count, &never, out)
+}
+
+// The join of two partitions.
+fn push_pair(
+    alloc: Global,
+    items: &[NamedItem],
+    counts: Option<&PlanCounts>,
+    pair: &PlanPair<'_>,
+    depth: usize,
+    out: &mut Vec<PgText>,
+) -> Result<(), NoMemory>
+    requires { depth ≤ 98 }
+    ensures { OnOk result (out.new.items ≡ out.old.items ++ plans.joins items.now (lent counts.entry) (both (planned_pair pair.now)) depth) }
+{
+    push_join(alloc, items, counts, &pair.right, depth, out)?;
+    push_item(alloc, items, counts, &pair.left, depth + 1, out)?;
+    push_item(alloc, items, counts, &pair.right, depth + 1, out)
+}
+
+fn push_each_pair(
+    alloc: Global,
+    items: &[NamedItem],
+    counts: Option<&PlanCounts>,
+    pairs: &[PlanPair<'_>],
+    depth: usize,
+    out: &mut Vec<PgText>,
+) -> Result<(), NoMemory>
+    requires { depth ≤ 98 }
+    ensures { OnOk result (out.new.items ≡ out.old.items ++ each (λ p. plans.joins items.now (lent counts.entry) (both p)) (map planned_pair pairs.now) depth) }
+{
+    for pair in pairs {
+        push_pair(alloc, items, counts, pair, depth, out)?;
+    }
+    Ok(())
+}
+
+// A partitionwise join.
+fn push_pairs(
+    alloc: Global,
+    items: &[NamedItem],
+    counts: Option<&PlanCounts>,
+    pairs: &[PlanPair<'_>],
+    depth: usize,
+    out: &mut Vec<PgText>,
+) -> Result<(), NoMemory>
+    requires { depth ≤ 97 }
+    ensures { OnOk result (out.new.items ≡ out.old.items ++ plans.pair_joins items.now (lent counts.entry) (map planned_pair pairs.now) depth) }
+{
+    let count = of_pairs(counts, pairs);
+    if pairs.is_empty() {
+        return push_never(alloc, count, depth, out);
+    }
+    if pairs.len() == 1 {
+        return push_pair(alloc, items, counts, &pairs[0], depth, out);
+    }
+    push_node(alloc, depth, b"Append", count, &[], out)?;
+    push_each_pair(alloc, items, counts, pairs, depth + 1, out)
+}
+
+// Items that are joined from the left onto a partitionwise join.
+fn push_onto(
+    alloc: Global,
+    items: &[NamedItem],
+    counts: Option<&PlanCounts>,
+    pairs: &[PlanPair<'_>],
+    joined: &[PlanItem<'_>],
+    depth: usize,
+    out: &mut Vec<PgText>,
+) -> Result<(), NoMemory>
+    requires { depth + length joined.now ≤ 97 }
+    ensures { OnOk result (out.new.items ≡ out.old.items ++ plans.joined items.now (lent counts.entry) (plans.pair_joins items.now (lent counts.entry) (map planned_pair pairs.now)) (map planned_item joined.now) depth) }
+{
+    match joined.split_last() {
+        None => push_pairs(alloc, items, counts, pairs, depth, out),
+        Some((last, before)) => {
+            push_join(alloc, items, counts, last, depth, out)?;
+            push_onto(alloc, items, counts, pairs, before, depth + 1, out)?;
+            push_item(alloc, items, counts, last, depth + 1, out)
+        }
+    }
+}
+
 fn push_rows(
     alloc: Global,
     items: &[NamedItem],
@@ -70,17 +199,16 @@ fn push_rows(
     depth: usize,
     out: &mut Vec<PgText>,
 ) -> Result<(), NoMemory>
-    requires { depth + length (planned plan.now).items ≤ 99 }
+    requires { depth + length (planned plan.now).items ≤ 97 }
     ensures { OnOk result (out.new.items ≡ out.old.items ++ plans.rows items.now (lent counts.entry) (planned plan.now) depth) }
 {
     if plan.is_empty() {
-        let never = one(alloc, PgText::from_bytes(alloc, b"One-Time Filter: false")?)?;
-        return push_node(alloc, depth, b"Result", of_given(counts), &never, out);
+        return push_never(alloc, of_given(counts), depth, out);
     }
-    if plan.items.is_empty() {
-        return push_node(alloc, depth, b"Result", of_given(counts), &[], out);
+    match &plan.pairs {
+        None => push_items(alloc, items, counts, &plan.items, depth, out),
+        Some(pairs) => push_onto(alloc, items, counts, pairs, plan.unpaired(), depth, out),
     }
-    push_joined(alloc, items, counts, &plan.items, depth, out)
 }
 
 // ---- ORDER BY, LIMIT and OFFSET
@@ -109,7 +237,7 @@ fn push_sorted(
     depth: usize,
     out: &mut Vec<PgText>,
 ) -> Result<(), NoMemory>
-    requires { depth + length (planned plan.now).items ≤ 98 }
+    requires { depth + length (planned plan.now).items ≤ 96 }
     ensures { OnOk result (out.new.items ≡ out.old.items ++ plans.sorted items.now (lent counts.entry) (map output_tree outputs.now) order.now (plans.rows items.now (lent counts.entry) (planned plan.now)) depth) }
 {
     if order.is_empty() {
@@ -179,8 +307,8 @@ fn push_in_order(
     depth: usize,
     out: &mut Vec<PgText>,
 ) -> Result<(), NoMemory>
-    requires { depth + length (planned plan.now).items ≤ 97 }
-    ensures { OnOk result (out.new.items ≡ out.old.items ++ plans.in_order items.now (lent counts.entry) (select_meant ask.now) (planned plan.now) (sorted_parts (select_meant ask.now) (planned plan.now).items) depth) }
+    requires { depth + length (planned plan.now).items ≤ 96 }
+    ensures { OnOk result (out.new.items ≡ out.old.items ++ plans.in_order items.now (lent counts.entry) (select_meant ask.now) (planned plan.now) (sorted_parts (select_meant ask.now) (planned plan.now)) depth) }
 {
     let outputs = ask.outputs.as_slice();
     let order = ask.order.as_slice();

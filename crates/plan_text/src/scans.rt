@@ -200,7 +200,7 @@ pub(crate) fn push_item(
         );
     }
     let removed = removed_detail(alloc, item.removed)?;
-    let count = of_append(counts, number);
+    let count = of_append(counts, item);
     push_node(alloc, depth, b"Append", count, &removed, out)?;
     push_scans(
         alloc,

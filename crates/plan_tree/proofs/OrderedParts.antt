@@ -1,6 +1,6 @@
 -- The parts of an Ordered Append, one by one.
 use Rattle.std.proofs.Common.{◌≡◌, ℕ, zero, suc, ◌+◌, ◌≤◌, ◌<◌, arith, Bool, true, false, not, List, [], ◌∷◌, ◌++◌, refl, sym, ap, ap₂, ◌∙◌, subst, add-one, drop-cons, length, take, drop, map, min, get_or, append_assoc, append-nil}
-use Rattle.std.specs.Prelude.{◌==◌, ◌&&◌, ◌||◌, nat_le, if◌then◌else◌, Some, slice_get}
+use Rattle.std.specs.Prelude.{◌==◌, ◌&&◌, ◌||◌, nat_le, if◌then◌else◌, Option, Some, None, is_some, option_map, slice_get}
 use Rattle.std.specs.List.{list_any, sum_by}
 use Rattle.std.proofs.lemmas.Bool.Decides.{nat_tests}
 use Rattle.std.proofs.lemmas.Option.{slice_get_within, get_or_from_slice_get}
@@ -17,19 +17,21 @@ use Rattle.row_router.specs.Seen.{seen}
 use Rattle.cond_logic.specs.declared.select.SortKey.{SortKey}
 use Rattle.cond_logic.specs.Asked.{OutputTree, SelectMeant}
 use Rattle.cond_logic.specs.Tables.{Leaf}
-use Rattle.plan_tree.specs.OrderedAppends.{goes_by, begins_with, is_nested, is_settled, is_range, is_leaf, lies_under, first_under, put_part, parts_under, parts_joined, if_whole, parts_in, sorted_parts}
+use Rattle.plan_tree.specs.OrderedAppends.{goes_by, begins_with, is_nested, is_settled, is_range, is_leaf, lies_under, first_under, put_part, parts_under, parts_joined, if_whole, follows, parts_in, only_parts}
 use Rattle.plan_tree.specs.Parameters.{has_parameter}
-use Rattle.plan_tree.specs.Plans.{PlannedItem}
+use Rattle.plan_tree.specs.Parts.{emptied, all_emptied, one_of, in_part, in_partition}
+use Rattle.plan_tree.specs.Plans.{PlannedItem, planned_item, unless_paired}
+use Rattle.plan_tree.specs.declared.item.PlanItem.{PlanItem}
 
 -- ---- what is left of a list
 
-left_at : {X : Type 0} (xs : List X) (i : ℕ) (d : X) → i < length xs → drop i xs ≡ get_or xs i d ∷ drop (i + 1) xs
+pub left_at : {X : Type 0} (xs : List X) (i : ℕ) (d : X) → i < length xs → drop i xs ≡ get_or xs i d ∷ drop (i + 1) xs
 left_at xs i d less = rw (add-one i) (drop-cons xs i d less)
 
-left_from : {X : Type 0} (xs : List X) (i : ℕ) (x : X) → i < length xs → x ≡ get_or xs i x → drop i xs ≡ x ∷ drop (i + 1) xs
+pub left_from : {X : Type 0} (xs : List X) (i : ℕ) (x : X) → i < length xs → x ≡ get_or xs i x → drop i xs ≡ x ∷ drop (i + 1) xs
 left_from xs i x less is = left_at xs i x less ∙ ap (λ y. y ∷ drop (i + 1) xs) (sym is)
 
-left_got : {X : Type 0} (xs : List X) (i : ℕ) (x : X) → slice_get xs i ≡ Some x → drop i xs ≡ x ∷ drop (i + 1) xs
+pub left_got : {X : Type 0} (xs : List X) (i : ℕ) (x : X) → slice_get xs i ≡ Some x → drop i xs ≡ x ∷ drop (i + 1) xs
 left_got xs i x at = left_from xs i x (slice_get_within xs i x at) (sym (get_or_from_slice_get xs i x x at))
 
 -- ---- the keys of ORDER BY
@@ -181,11 +183,13 @@ parts_kept now xs ls ps same two whole =
     let b : (length (parts_joined ps) == length ls) ≡ true = grind (arith, nat_tests, whole) in
     same ∙ sym (ap₂ (λ (x y : Bool). if x && y then ps else []) a b)
 
-pub parts_few : {X : Type 0} (now : X → List Leaf) (xs : List X) (ls : List Leaf) (ps : List (List Leaf)) → map now xs ≡ ps → length xs < 2 → [] ≡ if_whole ls ps
-parts_few now xs ls ps same few =
-    let less : length ps < 2 = let n = ap length same in let m = length-map xs now in omega (arith, n, m, few) in
+too_few : (ls : List Leaf) (ps : List (List Leaf)) → length ps < 2 → [] ≡ if_whole ls ps
+too_few ls ps less =
     let a : nat_le 2 (length ps) ≡ false = grind (arith, nat_tests, less) in
     sym (ap (λ (x : Bool). if x && (length (parts_joined ps) == length ls) then ps else []) a)
+
+pub parts_few : {X : Type 0} (now : X → List Leaf) (xs : List X) (ls : List Leaf) (ps : List (List Leaf)) → map now xs ≡ ps → length xs < 2 → [] ≡ if_whole ls ps
+parts_few now xs ls ps same few = too_few ls ps (let n = ap length same in let m = length-map xs now in omega (arith, n, m, few))
 
 pub parts_torn : (ls : List Leaf) (ps : List (List Leaf)) → (length (parts_joined ps) == length ls) ≡ false → [] ≡ if_whole ls ps
 parts_torn ls ps torn = by (nat_le 2 (length ps)) ∙ sym (ap (λ (y : Bool). if nat_le 2 (length ps) && y then ps else []) torn)
@@ -280,16 +284,93 @@ parts_over m i (LevelTable node level bounds kids) some =
     by false b s is here = absurd (omega (arith, here))
 
 -- they are all leaves of the only item
-pub record AreAll (is : List PlannedItem) (parts : List (List Leaf)) : Type 0 where
+pub record AreAll {X : Type 0} (pairs : Option X) (is : List PlannedItem) (parts : List (List Leaf)) : Type 0 where
   pub item : PlannedItem
+  pub unpaired : pairs ≡ None
   pub alone : is ≡ item ∷ []
   pub over : IsOver item parts
 
-pub parts_are_all : (m : SelectMeant) (is : List PlannedItem) (parts : List (List Leaf)) → parts ≡ sorted_parts m is → 0 < length parts → AreAll is parts
-parts_are_all m [] parts same some = let n = ap length same in absurd (omega (arith, n, some))
-parts_are_all m (i ∷ []) parts same some = record {
+pub parts_are_all : {X : Type 0} (m : SelectMeant) (pairs : Option X) (is : List PlannedItem) (parts : List (List Leaf)) → parts ≡ only_parts m (unless_paired pairs is) → 0 < length parts → AreAll pairs is parts
+parts_are_all m None [] parts same some = let n = ap length same in absurd (omega (arith, n, some))
+parts_are_all m None (i ∷ []) parts same some = record {
   item = i;
+  unpaired = refl;
   alone = refl;
   over = subst (IsOver i) (sym same) (parts_over m i i.tree (subst (λ ps. 0 < length ps) same some));
 }
-parts_are_all m (i ∷ j ∷ js) parts same some = let n = ap length same in absurd (omega (arith, n, some))
+parts_are_all m None (i ∷ j ∷ js) parts same some = let n = ap length same in absurd (omega (arith, n, some))
+parts_are_all m (Some pairs) is parts same some = let n = ap length same in absurd (omega (arith, n, some))
+
+-- ---- one partition alone
+
+-- no leaf lies under a table without partitions
+none_first : (k : TableTree) (ls : List Leaf) → first_under (emptied k) ls ≡ 0
+none_first k [] = refl
+none_first k (l ∷ ls) = refl
+
+-- so it is no part
+no_part : (k : TableTree) (ls : List Leaf) (b : Bound) (bs : List Bound) (ks : Trees) → parts_under ls (b ∷ bs) (More (emptied k) ks) ≡ (if is_default b then [] else parts_under ls bs ks)
+no_part k ls b bs ks = ap (λ n. if is_default b then [] else put_part (take n ls) (parts_under (drop n ls) bs ks)) (none_first k ls)
+
+none_under : (ls : List Leaf) (bs : List Bound) (ks : Trees) → length (parts_under ls bs (all_emptied ks)) ≡ 0
+none_under ls bs End = refl
+none_under ls [] (More k ks) = refl
+none_under ls (b ∷ bs) (More k ks) = ap (length {A = List Leaf}) (no_part k ls b bs (all_emptied ks)) ∙ by (is_default b) (none_under ls bs ks)
+  where
+    by : (d : Bool) → length (parts_under ls bs (all_emptied ks)) ≡ 0 → length (if d then [] else parts_under ls bs (all_emptied ks)) ≡ 0
+    by true none = refl
+    by false none = none
+
+one_under : (n : ℕ) (ls : List Leaf) (bs : List Bound) (ks : Trees) → length (parts_under ls bs (one_of n ks)) < 2
+one_under n ls bs End = omega arith
+one_under zero ls [] (More k ks) = omega arith
+one_under (suc n) ls [] (More k ks) = omega arith
+one_under zero ls (b ∷ bs) (More k ks) = by (is_default b) (take (first_under k ls) ls) (none_under (drop (first_under k ls) ls) bs ks)
+  where
+    behind : List (List Leaf)
+    behind = parts_under (drop (first_under k ls) ls) bs (all_emptied ks)
+
+    by : (d : Bool) (part : List Leaf) → length behind ≡ 0 → length (if d then [] else put_part part behind) < 2
+    by true part none = omega arith
+    by false [] none = omega (arith, none)
+    by false (l ∷ part) none = omega (arith, none)
+one_under (suc n) ls (b ∷ bs) (More k ks) = subst (λ ps. length ps < 2) (sym (no_part k ls b bs (one_of n ks))) (by (is_default b) (one_under n ls bs ks))
+  where
+    by : (d : Bool) → length (parts_under ls bs (one_of n ks)) < 2 → length (if d then [] else parts_under ls bs (one_of n ks)) < 2
+    by true few = omega arith
+    by false few = few
+
+-- an item over one partition has no parts
+one_part : (m : SelectMeant) (i : PlannedItem) (n : ℕ) (t : TableTree) → [] ≡ parts_in m i (in_partition n t)
+one_part m i n (LeafTable node leaf) = refl
+one_part m i n (LevelTable node level bounds kids) = by (follows m i level) (too_few i.leaves (parts_under i.leaves bounds (one_of n kids)) (one_under n i.leaves bounds kids))
+  where
+    by : (f : Bool) → [] ≡ if_whole i.leaves (parts_under i.leaves bounds (one_of n kids)) → [] ≡ (if f then if_whole i.leaves (parts_under i.leaves bounds (one_of n kids)) else [])
+    by true none = none
+    by false none = refl
+
+-- ---- the only item
+
+part_none : (m : SelectMeant) (i : PlannedItem) (part : Option ℕ) (t : TableTree) → is_some part ≡ true → [] ≡ parts_in m i (in_part part t)
+part_none m i None t some = absurd (cc)
+part_none m i (Some n) t some = one_part m i n t
+
+whole_tree : (part : Option ℕ) (t : TableTree) → is_some part ≡ false → t ≡ in_part part t
+whole_tree None t none = refl
+whole_tree (Some n) t none = absurd (cc)
+
+module _ {X Y : Type 0} (f : X → Y) (m : SelectMeant) (pairs : Option X) (is : List PlanItem) (i : PlanItem) (unpaired : is_some pairs ≡ false) (one : length is ≡ 1) (at : i ≡ get_or is 0 i) where
+  only : parts_in m (planned_item i) (in_part i.part (seen i.tree.now)) ≡ only_parts m (unless_paired (option_map f pairs) (map planned_item is))
+  only = by pairs is unpaired one at
+    where
+      by : (ps : Option X) (js : List PlanItem) → is_some ps ≡ false → length js ≡ 1 → i ≡ get_or js 0 i → parts_in m (planned_item i) (in_part i.part (seen i.tree.now)) ≡ only_parts m (unless_paired (option_map f ps) (map planned_item js))
+      by (Some p) js none long first = absurd (cc)
+      by None [] none long first = absurd (omega (arith, long))
+      by None (x ∷ []) none long first = ap (λ (j : PlanItem). parts_in m (planned_item j) (in_part j.part (seen j.tree.now))) first
+      by None (x ∷ y ∷ js) none long first = absurd (omega (arith, long))
+
+  pub only_whole : is_some i.part ≡ false → parts_in m (planned_item i) (seen i.tree.now) ≡ only_parts m (unless_paired (option_map f pairs) (map planned_item is))
+  only_whole whole = ap (parts_in m (planned_item i)) (whole_tree i.part (seen i.tree.now) whole) ∙ only
+
+  pub only_part : is_some i.part ≡ true → [] ≡ only_parts m (unless_paired (option_map f pairs) (map planned_item is))
+  only_part some = part_none m (planned_item i) i.part (seen i.tree.now) some ∙ only

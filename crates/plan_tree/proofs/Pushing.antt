@@ -30,7 +30,7 @@ count_kids (x ∷ xs) = let rest = count_kids xs in omega (arith, rest)
 left_bounds : (bounds : List Bound) (k : ℕ) → k < length bounds → drop k bounds ≡ slice_index_or bounds k Default ∷ drop (k + 1) bounds
 left_bounds bounds k lt = drop_more bounds k Default lt
 
-left_items : (items : List Tree) (k : ℕ) (child : Tree) → k < length items → child ≡ get_or items k child → drop k items ≡ child ∷ drop (k + 1) items
+pub left_items : (items : List Tree) (k : ℕ) (child : Tree) → k < length items → child ≡ get_or items k child → drop k items ≡ child ∷ drop (k + 1) items
 left_items items k child lt is = drop_more items k child lt ∙ ap (λ x. x ∷ drop (k + 1) items) (sym is)
 
 module _ (keeps : Keeps) (test : Bound → Bool) (bounds : List Bound) (items : List Tree) (k : ℕ) (child : Tree) (in_bounds : k < length bounds) (in_items : k < length items) (is : child ≡ get_or items k child) where

@@ -22,7 +22,7 @@ use Rattle.history.specs.Legal.{IsLegal}
 use Rattle.history.specs.Presence.{counts, entries_shown}
 use Rattle.row_router.specs.declared.node.Node.{Node}
 use Rattle.row_router.specs.Trees.{TableTree, trees_of, key_of, leaves, all_leaves}
-use Rattle.row_router.specs.Histories.{tree_within, tree_of, grown, node_at, children, bound_of, child_of_entry}
+use Rattle.row_router.specs.Histories.{tree_within, grown, node_at, children, bound_of, child_of_entry}
 use Rattle.row_router.proofs.Order.{all_children, under_children}
 use Rattle.soundness.specs.Laws.{IsLooking}
 use Rattle.soundness.specs.Parts.{InvariantOf}

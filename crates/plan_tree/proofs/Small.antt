@@ -31,7 +31,7 @@ use Rattle.soundness.proofs.OneLeaf.{sessions_have_siblings}
 use Rattle.soundness.proofs.Presence.{all_shown}
 use Rattle.soundness.proofs.Counted.{AreTwo}
 use Rattle.soundness.proofs.Sound.{sound_of, catalogue_sound_of}
-use Rattle.plan_tree.specs.Laws.{TreesCanBePruned}
+use Rattle.plan_tree.specs.Laws.{TreesCanBePruned, StandsInOrder, TreesStandInOrder}
 use Rattle.plan_tree.specs.Prunable.{CanPrune, AllCanPrune}
 use Rattle.plan_tree.proofs.Numbered.{all_two}
 
@@ -103,3 +103,15 @@ trees_prunable h session table s legal permitted made =
     let few = few_children h session s i (all_shown h session s (sound_of h legal) sound) (AllPairs-filter AreTwo (is_shown h session s) (entries_added (catalogue_events h)) (all_two h sound)) (λ es t are. siblings.few t es are) in
     can_prune (table_at (tables_made (catalogue_events h)) table).columns (tree_of h session table s) (tree_sound h session table s sound (sessions_have_siblings h session legal permitted))
     (few_within (tables_made (catalogue_events h)) entries table few 7 table)
+
+-- ---- plain order
+
+stands_in_order : (columns : List Column) (tree : TableTree) → IsSound columns tree → StandsInOrder tree
+stands_in_order columns (LeafTable node leaf) sound = tt
+stands_in_order columns (LevelTable node level bounds kids) sound = sound.2
+
+pub trees_ordered : TreesStandInOrder
+unfolding Rattle.row_router.specs.Histories.tree_of
+trees_ordered h session table s legal permitted made =
+    stands_in_order (table_at (tables_made (catalogue_events h)) table).columns (tree_of h session table s)
+    (tree_sound h session table s (catalogue_sound_of h legal) (sessions_have_siblings h session legal permitted))

@@ -5,6 +5,7 @@ use Rattle.pg_values.specs.declared.value.Value.{Value}
 use Rattle.pg_values.specs.declared.ids.LeafId.{LeafId}
 use Rattle.bound_forms.specs.declared.partition_bound.Bound.{Bound}
 use Rattle.bound_forms.specs.Accepts.{accepts_among}
+use Rattle.bound_forms.specs.Bounds.{IsInPlainOrder}
 use Rattle.history.specs.declared.version.Version.{Version}
 use Rattle.history.specs.Snapshots.{TakenSnapshot}
 use Rattle.history.specs.History.{History, catalogue_events, seen}
@@ -74,3 +75,11 @@ ShownLieRight = (h : History) (session table : ℕ) (s : TakenSnapshot) → IsLe
 
 abbrev pub TreesCanBePruned : Type 0
 TreesCanBePruned = (h : History) (session table : ℕ) (s : TakenSnapshot) → IsLegal h → ArePermitted h → IsMade (catalogue_events h) table → CanPrune (tree_of h session table s)
+
+-- at its top the bounds of a tree stand in plain order, and none overlap
+abbrev pub StandsInOrder : TableTree → Type 0
+StandsInOrder (LeafTable node leaf) = Unit {0}
+StandsInOrder (LevelTable node level bounds kids) = IsInPlainOrder bounds
+
+abbrev pub TreesStandInOrder : Type 0
+TreesStandInOrder = (h : History) (session table : ℕ) (s : TakenSnapshot) → IsLegal h → ArePermitted h → IsMade (catalogue_events h) table → StandsInOrder (tree_of h session table s)

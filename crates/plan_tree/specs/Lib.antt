@@ -6,6 +6,10 @@ pub mod JoinKinds
 pub mod Kept
 pub mod Laws
 pub mod OrderedAppends
+pub mod Pairs
 pub mod Parameters
+pub mod Partitionwise
+pub mod Parts
 pub mod Plans
 pub mod Prunable
+pub mod Searched

@@ -20,7 +20,7 @@ use Rattle.cond_logic.specs.Tables.{Leaf}
 use Rattle.plan_tree.specs.Parameters.{has_parameter}
 use Rattle.plan_tree.specs.declared.join_kind.JoinKind.{JoinKind}
 use Rattle.plan_tree.specs.declared.join_kind.JoinKind.TheVariants.{NestedLoop, HashJoin}
-use Rattle.plan_tree.specs.Plans.{PlannedItem}
+use Rattle.plan_tree.specs.Plans.{PlannedItem, Planned, unless_paired}
 
 -- ---- the keys of ORDER BY
 
@@ -108,8 +108,11 @@ abbrev pub parts_in : SelectMeant → PlannedItem → TableTree → List (List L
 parts_in m i (LeafTable node leaf) = []
 parts_in m i (LevelTable node level bounds kids) = if follows m i level then if_whole i.leaves (parts_under i.leaves bounds kids) else []
 
+abbrev pub only_parts : SelectMeant → List PlannedItem → List (List Leaf)
+only_parts m [] = []
+only_parts m (i ∷ []) = parts_in m i i.tree
+only_parts m (i ∷ j ∷ js) = []
+
 -- the leaves of each part of an Ordered Append, which stands over one item; none where there is no such
-abbrev pub sorted_parts : SelectMeant → List PlannedItem → List (List Leaf)
-sorted_parts m [] = []
-sorted_parts m (i ∷ []) = parts_in m i i.tree
-sorted_parts m (i ∷ j ∷ js) = []
+abbrev pub sorted_parts : SelectMeant → Planned → List (List Leaf)
+sorted_parts m p = only_parts m (unless_paired p.pairs p.items)

@@ -1,5 +1,5 @@
 ghost use Rattle.plan_tree.specs.Counts.{CountsAreTimes};
-ghost use Rattle.plan_tree.specs.Laws.{NoneIsMissed, ShownLieRight, TreesCanBePruned};
+ghost use Rattle.plan_tree.specs.Laws.{NoneIsMissed, ShownLieRight, TreesCanBePruned, TreesStandInOrder};
 
 /// Where rows lie in leaves that accept them, those of all leaves that pass are those of the kept leaves.
 pub fn none_is_missed()
@@ -14,6 +14,11 @@ pub fn shown_lie_right()
 /// Each tree of a history can be pruned.
 pub fn trees_can_be_pruned()
     ensures { TreesCanBePruned }
+{}
+
+/// At the top of each its bounds stand in plain order, and none overlap.
+pub fn trees_stand_in_order()
+    ensures { TreesStandInOrder }
 {}
 
 /// What is counted of a node of a plan that is run is how often that happened.

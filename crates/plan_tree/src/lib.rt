@@ -12,6 +12,11 @@
 //! Where the keys of ORDER BY begin with those of a table that is partitioned by range, ascending, its partitions stand in the
 //! order of the rows already: then each is sorted by itself (`Plan::sorted_parts`).
 //!
+//! The first two items are joined partition by partition where the session asks for it and their tables are partitioned alike: by
+//! the same strategy and kinds, with equal bounds (`match_children`), and each partition key column of the one is equal to that of
+//! the other by a conjunct. Then no row of a partition has its like in another, and two partitions are a pair that is joined by
+//! itself (`PlanPair`): each item stands over one partition alone.
+//!
 //! A generic plan is made of conditions with parameters in them, whose values are not known yet. When it starts
 //! (`Plan::start`), each item that has such a condition keeps of its leaves those that these values keep too; the
 //! others stay locked, are not read, and are counted.
@@ -30,7 +35,7 @@
 //!
 //! No row that passes is missed: as lists in plain order the rows of all leaves that pass are those of the
 //! kept leaves (`none_is_missed`), wherever rows lie in leaves that accept them, as they do in each history
-//! of the stores (`shown_lie_right`, `trees_can_be_pruned`).
+//! of the stores (`shown_lie_right`, `trees_can_be_pruned`, `trees_stand_in_order`).
 #![tactic(auto)]
 
 mod beside;
@@ -43,6 +48,7 @@ mod join_kind;
 mod laws;
 mod making;
 mod ordered;
+mod pairs;
 mod parameters;
 mod plan;
 mod plan_counts;
@@ -50,11 +56,14 @@ mod planning;
 mod pruning;
 
 pub use condition::{all_hold, copy_cond};
-pub use count::Count;
+pub use count::{Count, PartCount};
 pub use item::PlanItem;
 pub use join_kind::{Equality, JoinKind};
-pub use laws::{counts_are_times, none_is_missed, shown_lie_right, trees_can_be_pruned};
+pub use laws::{
+    counts_are_times, none_is_missed, shown_lie_right, trees_can_be_pruned, trees_stand_in_order,
+};
 pub use making::make_plan;
+pub use pairs::{PlanPair, match_children};
 pub use plan::Plan;
 pub use plan_counts::PlanCounts;
 pub use planning::Planning;

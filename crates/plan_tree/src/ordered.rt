@@ -215,11 +215,15 @@ impl<'t> Plan<'t> {
         alloc: Global,
         ask: &SelectAsk,
     ) -> Result<Vec<&'p [NamedLeaf<'t>]>, NoMemory>
-        ensures { IfOk result (λ ps. map (λ p. p.now) ps.items ≡ ordered.sorted_parts (select_meant ask.now) (planned self.now).items) }
+        ensures { IfOk result (λ ps. map (λ p. p.now) ps.items ≡ ordered.sorted_parts (select_meant ask.now) (planned self.now)) }
     {
-        if self.items.len() != 1 {
+        if self.pairs.is_some() || self.items.len() != 1 {
             return Ok(Vec::new(alloc));
         }
-        parts_in(alloc, ask, &self.items[0])
+        let item = &self.items[0];
+        if item.part.is_some() {
+            return Ok(Vec::new(alloc));
+        }
+        parts_in(alloc, ask, item)
     }
 }

@@ -30,8 +30,9 @@ fn some_has_parameter(conds: &[Cond]) -> bool
     false
 }
 
+/// Whether a parameter stands in the condition.
 #[cycle(opening)]
-fn has_parameter(cond: &Cond) -> bool
+pub(crate) fn has_parameter(cond: &Cond) -> bool
     ensures { result ≡ spec.has_parameter (cond_tree cond.now) }
 {
     match cond {

@@ -1,14 +1,15 @@
 ghost use Rattle.std.specs.Prelude.{◌≡◌};
 ghost use Rattle.plan_tree.specs.Plans as plans;
 
-/// How a session plans: whether leaves are pruned, whether there are Hash Joins, and whether the plans of prepared
-/// statements are generic.
+/// How a session plans: whether leaves are pruned, whether there are Hash Joins, whether there are partitionwise joins, and
+/// whether the plans of prepared statements are generic.
 /// A custom plan is made of a statement with the values of its parameters in their places. A generic plan is made
 /// without the values of parameters that are operands by themselves; these prune its leaves when it starts.
 #[derive(Debug, Clone, Copy)]
 pub struct Planning {
     pub prunes: bool,
     pub hashes: bool,
+    pub pairs: bool,
     pub is_generic: bool,
 }
 
@@ -20,6 +21,7 @@ impl Planning {
         Planning {
             prunes: false,
             hashes: false,
+            pairs: false,
             is_generic: false,
         }
     }

@@ -1,6 +1,6 @@
 //! The kept leaves of a tree, and the tables that lead to them.
 
-ghost use Rattle.std.specs.Prelude.{◌≡◌, ◌<◌, ◌≤◌, ◌++◌, ℕ, [], All, IfOk, OnOk, length, map, slice_index_or};
+ghost use Rattle.std.specs.Prelude.{◌≡◌, ◌<◌, ◌≤◌, ◌++◌, [], All, IfOk, OnOk, if◌then◌else◌, length, map, slice_index_or};
 ghost use Rattle.bound_forms.specs.declared.partition_bound.Bound.TheVariants.{Default as ByDefault};
 ghost use Rattle.bound_forms.specs.Levels.{IsOfLevel};
 ghost use Rattle.cond_logic.specs.Trees.{cond_tree};
@@ -10,6 +10,7 @@ ghost use Rattle.prune_steps.specs.Bits.{AreBits};
 ghost use Rattle.prune_steps.specs.Kept as kept_one;
 ghost use Rattle.plan_tree.specs.Kept as kept_spec;
 ghost use Rattle.plan_tree.specs.Kept.{AreKept, keeps_by, keeps_for, keeps_plain, led, leaves_below, node_of};
+ghost use Rattle.plan_tree.specs.Parts.{in_part, in_partition, partitions};
 ghost use Rattle.plan_tree.specs.Prunable.{CanPrune};
 
 use crate::condition::copy_cond;
@@ -173,6 +174,108 @@ pub fn prune_item<'t>(
     }
     push_below(alloc, prunes, item, conds, tree, &mut tables, &mut leaves)?;
     Ok(KeptParts { tables, leaves })
+}
+
+// Those of a partition, where it is kept.
+fn prune_child<'t>(
+    alloc: Global,
+    is_kept: bool,
+    prunes: bool,
+    item: u32,
+    conds: &[Cond],
+    child: &'t Tree,
+) -> Result<KeptParts<'t>, NoMemory>
+    requires { CanPrune (seen child.now) }
+    ensures tables { IfOk result (λ k. k.tables.items ≡ (if is_kept then led (leaves_below (keeps_for prunes item (map cond_tree conds.now)) (seen child.now)) (node_of (seen child.now)).table
+        (kept_spec.kept_tables (keeps_for prunes item (map cond_tree conds.now)) (seen child.now)) else [])) }
+    ensures leaves { IfOk result (λ k. k.leaves.items ≡ (if is_kept then leaves_below (keeps_for prunes item (map cond_tree conds.now)) (seen child.now) else [])) }
+{
+    let mut tables = Vec::new(alloc);
+    let mut leaves = Vec::new(alloc);
+    if !is_kept {
+        return Ok(KeptParts { tables, leaves });
+    }
+    push_led(alloc, prunes, item, conds, child, &mut tables, &mut leaves)?;
+    Ok(KeptParts { tables, leaves })
+}
+
+// Those of one partition alone.
+fn prune_partition<'t>(
+    alloc: Global,
+    prunes: bool,
+    item: u32,
+    conds: &[Cond],
+    tree: &'t Tree,
+    part: usize,
+) -> Result<KeptParts<'t>, NoMemory>
+    requires { CanPrune (in_partition part (seen tree.now)) }
+    ensures tables { IfOk result (λ k. k.tables.items ≡ kept_spec.kept_tables (keeps_for prunes item (map cond_tree conds.now)) (in_partition part (seen tree.now))) }
+    ensures leaves { IfOk result (λ k. k.leaves.items ≡ kept_spec.kept_leaves (keeps_for prunes item (map cond_tree conds.now)) (in_partition part (seen tree.now))) }
+{
+    match &tree.shape {
+        Shape::Leaf(_) => prune_item(alloc, prunes, item, conds, tree),
+        Shape::Level(level, set, children) => {
+            if part >= children.len() {
+                return Ok(KeptParts {
+                    tables: Vec::new(alloc),
+                    leaves: Vec::new(alloc),
+                });
+            }
+            let kept = kept_of(alloc, prunes, item, conds, level, set)?;
+            prune_child(
+                alloc,
+                kept.keeps(part),
+                prunes,
+                item,
+                conds,
+                children.at(part),
+            )
+        }
+    }
+}
+
+/// The same of an item over each of the partitions alone.
+pub(crate) fn prune_partitions<'t>(
+    alloc: Global,
+    prunes: bool,
+    item: u32,
+    conds: &[Cond],
+    tree: &'t Tree,
+) -> Result<Vec<KeptParts<'t>>, NoMemory>
+    requires { CanPrune (seen tree.now) }
+    ensures tables { IfOk result (λ ks. map (λ k. k.tables.items) ks.items ≡ map (λ n. kept_spec.kept_tables (keeps_for prunes item (map cond_tree conds.now)) (in_partition n (seen tree.now))) (partitions (seen tree.now))) }
+    ensures leaves { IfOk result (λ ks. map (λ k. k.leaves.items) ks.items ≡ map (λ n. kept_spec.kept_leaves (keeps_for prunes item (map cond_tree conds.now)) (in_partition n (seen tree.now))) (partitions (seen tree.now))) }
+{
+    match &tree.shape {
+        Shape::Leaf(_) => Ok(Vec::new(alloc)),
+        Shape::Level(level, set, children) => {
+            let kept = kept_of(alloc, prunes, item, conds, level, set)?;
+            let mut parts = Vec::new(alloc);
+            for (k, child) in children.as_slice().iter().enumerate() {
+                parts.push(prune_child(alloc, kept.keeps(k), prunes, item, conds, child)?)?;
+            }
+            Ok(parts)
+        }
+    }
+}
+
+/// The same of an item over the whole table, or over one of its partitions.
+pub(crate) fn prune_part<'t>(
+    alloc: Global,
+    prunes: bool,
+    item: u32,
+    conds: &[Cond],
+    tree: &'t Tree,
+    part: Option<usize>,
+) -> Result<KeptParts<'t>, NoMemory>
+    requires { CanPrune (in_part part (seen tree.now)) }
+    ensures tables { IfOk result (λ k. k.tables.items ≡ kept_spec.kept_tables (keeps_for prunes item (map cond_tree conds.now)) (in_part part (seen tree.now))) }
+    ensures leaves { IfOk result (λ k. k.leaves.items ≡ kept_spec.kept_leaves (keeps_for prunes item (map cond_tree conds.now)) (in_part part (seen tree.now))) }
+{
+    match part {
+        None => prune_item(alloc, prunes, item, conds, tree),
+        Some(part) => prune_partition(alloc, prunes, item, conds, tree, part),
+    }
 }
 
 /// The same by one condition, of the only FROM item.

@@ -14,7 +14,14 @@ pub mod Marks
 pub mod Matches
 pub mod Opened
 pub mod OrderedReads
+pub mod PairApart
+pub mod PairRuns
+pub mod PairTuples
+pub mod Pairwise
 pub mod Plain
+pub mod PlainAnswers
+pub mod PlanReads
+pub mod PlanTuples
 pub mod Pruned
 pub mod ReadLeaves
 pub mod SortedParts

@@ -3,8 +3,8 @@
 //! The leaves of the first item are read in order. Each of its rows that passes what is asked there goes on:
 //! the leaves of the next item that are kept beside it are read, and so on to the last. An item that a Hash Join joins is read
 //! before all that, once, the last such item first: its rows stand in a table (`HashTable`), where each tuple finds those whose
-//! values are equal to its own. The rows that the
-//! snapshot sees are lent until they are projected: a tuple of all items that passes gives a row to the
+//! values are equal to its own. A partitionwise join of the first two items does so pair by pair: no leaf of a pair is read before
+//! the tuples of the pair before it have gone on. The rows that the snapshot sees are lent until they are projected: a tuple of all items that passes gives a row to the
 //! answer, with the values that it is sorted by (`KeyedRow`). Then the rows are sorted, stably, and cut by
 //! OFFSET and LIMIT. What this gives is the definition of an answer (`specs/Answer.antt`).
 //!
@@ -26,6 +26,7 @@ mod keyed_row;
 mod keys;
 mod laws;
 mod opening;
+mod pairs;
 mod reading;
 mod row;
 

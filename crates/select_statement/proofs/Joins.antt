@@ -1,12 +1,12 @@
 -- What the scans of a plan read.
 use Rattle.std.proofs.Common.{◌≡◌, ℕ, ◌+◌, ◌<◌, ◌&&◌, arith, Bool, true, false, if◌then◌else◌, List, [], ◌∷◌, ◌++◌, ⊎_elim, length, map, refl, sym, ap, subst, ◌∙◌, append-nil, append_assoc}
-use Rattle.std.specs.Prelude.{All, filter}
+use Rattle.std.specs.Prelude.{All, Option, Some, None, filter, option_map}
 use Rattle.std.specs.List.{Contains, flat_map}
 use Rattle.std.specs.List.Sorted.{IsPermutation}
 use Rattle.std.proofs.lemmas.List.{map-append}
 use Rattle.std.proofs.lemmas.List.Concat.{flat_map-append}
 use Rattle.std.proofs.lemmas.List.Folds.{list_all-append}
-use Rattle.std.proofs.lemmas.List.Elements.{All-nil, All-append, All-contains, All-contains_itself, All-weaker, All-map, Contains-append_left, Contains-append_right, Contains-append_cases}
+use Rattle.std.proofs.lemmas.List.Elements.{All-nil, All-append, All-head, All-tail, All-contains, All-contains_itself, All-weaker, All-map, Contains-append_left, Contains-append_right, Contains-append_cases}
 use Rattle.std.proofs.lemmas.List.Sorted.{IsPermutation-refl, IsPermutation-trans, IsPermutation-append, IsPermutation-append_comm, IsPermutation-append_right, All-permutation, Contains-permutation}
 use Rattle.pg_values.specs.declared.ids.LeafId.{LeafId}
 use Rattle.pg_values.specs.declared.value.Value.{Value}
@@ -27,15 +27,16 @@ use Rattle.plan_tree.specs.Conditions.{all_hold}
 use Rattle.plan_tree.specs.JoinKinds.{join_kind}
 use Rattle.plan_tree.specs.declared.join_kind.JoinKind.{JoinKind}
 use Rattle.plan_tree.specs.declared.join_kind.JoinKind.TheVariants.{NestedLoop, HashJoin}
-use Rattle.plan_tree.specs.Plans.{PlannedItem, Planned, asks_again, keeps_first, keeps_beside, is_empty, item_for, items_from, kept_beside, leaves_for, plan_for, pruned_at_start, started_item, started, plan_by}
+use Rattle.plan_tree.specs.Parts.{in_partition, partitions}
+use Rattle.plan_tree.specs.Plans.{PlannedItem, Planned, Pair, both as items_of, both_keep, behind, paired as paired_items, unpaired, scanned_items, over_partition, pair_at, pairs_of, pairs_over, is_partitionwise, started_pair, asks_again, keeps_first, keeps_beside, is_empty, item_for, items_from, kept_beside, leaves_for, plan_for, pruned_at_start, started_item, started, plan_by}
 use Rattle.plan_tree.specs.declared.planning.Planning.{Planning}
-use Rattle.select_answer.specs.Tuples.{Tuple, Mark, Reads, Gives, no_tuple, passes, tuples_in, scan_marks, beside_marks, first_marks, read_first, for_each, joined, tuples_of, reads_in}
+use Rattle.select_answer.specs.Tuples.{Tuple, Mark, Reads, Gives, no_tuple, passes, tuples_in, scan_marks, beside_marks, first_marks, read_first, for_each, joined, pair_marks, all_joined, tuples_of, reads_in}
 use Rattle.select_answer.specs.Laws.{plan_reads}
 use Rattle.select_answer.proofs.Kept.{in_first, in_second}
 use Rattle.select_answer.proofs.Plain.{reads_append, given_reads, leaves_first, leaves_reads, leaves_tuples}
 use Rattle.select_answer.proofs.Marks.{of_ids, asked_once}
 use Rattle.plan_text.specs.Plans.{scanned}
-use Rattle.select_statement.specs.Joins.{read_beside, item_reads, joined_with, items_read, scans_read, IsReached, AreReached, JoinsReadTheirScans, ReadsAreScanned, ReachedScansAreRead}
+use Rattle.select_statement.specs.Joins.{read_beside, item_reads, joined_with, all_joined_with, items_read, pairs_read, pairs_give, PairsAreReached, scans_read, IsReached, AreReached, JoinsReadTheirScans, ReadsAreScanned, ReachedScansAreRead}
 
 -- ---- lists with the same elements
 
@@ -235,18 +236,125 @@ module _ (args : List Value) (rows : Rows) (cs : List CondTree) where
         subst (IsPermutation (ids ++ found)) (ap (λ l. l ++ found) (sym (leaves_first i.leaves)) ∙ ap (λ l. reads_in (first_marks HashJoin i) ++ l) (found_each left (once refl)))
         (IsPermutation-refl (ids ++ found))
 
-  all_joins : (is : List PlannedItem) → ArePlanned is → (left : List Tuple) → IsPermutation (items_read args rows is left) (reads_in (read_first is) ++ flat_map (loops_reads is) left)
-  all_joins [] its left = subst (IsPermutation []) (sym (at_end left)) (IsPermutation-refl [])
-  all_joins (i ∷ is) its left =
+  -- items from the left, and behind them the others
+  all_joins : (is others : List PlannedItem) → ArePlanned is → (left : List Tuple)
+      → IsPermutation (items_read args rows is left ++ flat_map (loops_reads others) (all_joined_with args rows is left)) (reads_in (read_first is) ++ flat_map (loops_reads (is ++ others)) left)
+  all_joins [] others its left = IsPermutation-refl (flat_map (loops_reads others) left)
+  all_joins (i ∷ is) others its left =
       let more = joined_with args rows i left in
       let own = item_reads i.join i left in
+      let later = items_read args rows is more in
+      let behind = flat_map (loops_reads others) (all_joined_with args rows is more) in
       let first = reads_in (read_first is) in
       let here = reads_in (first_marks i.join i) in
-      let all = flat_map (loops_reads (i ∷ is)) left in
-      subst (IsPermutation (own ++ items_read args rows is more)) (sym (append_assoc first here all) ∙ ap (λ l. l ++ all) (sym (reads_append (read_first is) (first_marks i.join i))))
-      (IsPermutation-trans _ _ _ (IsPermutation-append_right own (items_read args rows is more) (first ++ flat_map (loops_reads is) more) (all_joins is its.1 more))
-      (IsPermutation-trans _ _ _ (to_front own first (flat_map (loops_reads is) more))
-      (IsPermutation-append_right first (own ++ flat_map (loops_reads is) more) (here ++ all) (one_join i is i.join its.0.once left))))
+      let all = flat_map (loops_reads (i ∷ is ++ others)) left in
+      let beyond = flat_map (loops_reads (is ++ others)) more in
+      subst (λ l. IsPermutation l (reads_in (read_first (i ∷ is)) ++ all)) (sym (append_assoc own later behind))
+      (subst (IsPermutation (own ++ (later ++ behind))) (sym (append_assoc first here all) ∙ ap (λ l. l ++ all) (sym (reads_append (read_first is) (first_marks i.join i))))
+      (IsPermutation-trans _ _ _ (IsPermutation-append_right own (later ++ behind) (first ++ beyond) (all_joins is others its.1 more))
+      (IsPermutation-trans _ _ _ (to_front own first beyond)
+      (IsPermutation-append_right first (own ++ beyond) (here ++ all) (one_join i (is ++ others) i.join its.0.once left)))))
+
+  -- behind the last item
+  last_joins : (is : List PlannedItem) → ArePlanned is → (left : List Tuple) → IsPermutation (items_read args rows is left) (reads_in (read_first is) ++ flat_map (loops_reads is) left)
+  last_joins is its left =
+      subst (λ l. IsPermutation l (reads_in (read_first is) ++ flat_map (loops_reads is) left)) (ap (λ l. items_read args rows is left ++ l) (at_end (all_joined_with args rows is left)) ∙ append-nil (items_read args rows is left))
+      (subst (λ js. IsPermutation (items_read args rows is left ++ flat_map (loops_reads []) (all_joined_with args rows is left)) (reads_in (read_first is) ++ flat_map (loops_reads js) left)) (append-nil is) (all_joins is [] its left))
+
+  -- ---- pairs
+
+  abbrev PairsPlanned : List Pair → Type 0
+  PairsPlanned [] = Unit {0}
+  PairsPlanned (p ∷ ps) = ArePlanned (items_of p) × PairsPlanned ps
+
+  one_pair : (is : List PlannedItem) (p : Pair) → ArePlanned (items_of p)
+      → IsPermutation (items_read args rows (items_of p) (no_tuple ∷ []) ++ flat_map (loops_reads is) (all_joined_with args rows (items_of p) (no_tuple ∷ []))) (reads_in (pair_marks args rows is cs p))
+  one_pair is p its =
+      subst (IsPermutation (items_read args rows (items_of p) (no_tuple ∷ []) ++ flat_map (loops_reads is) (all_joined_with args rows (items_of p) (no_tuple ∷ []))))
+      (ap (λ l. reads_in (read_first (items_of p)) ++ l) (append-nil (loops_reads (items_of p ++ is) no_tuple)) ∙ sym (reads_append (read_first (items_of p)) (joined args rows (items_of p ++ is) cs no_tuple)))
+      (all_joins (items_of p) is its (no_tuple ∷ []))
+
+  all_pairs : (is : List PlannedItem) (ps : List Pair) → PairsPlanned ps
+      → IsPermutation (pairs_read args rows (Some ps) ++ flat_map (loops_reads is) (pairs_give args rows (Some ps))) (reads_in (flat_map (pair_marks args rows is cs) ps))
+  all_pairs is [] its = IsPermutation-refl []
+  all_pairs is (p ∷ ps) its =
+      let own = items_read args rows (items_of p) (no_tuple ∷ []) in
+      let given = all_joined_with args rows (items_of p) (no_tuple ∷ []) in
+      let others = pairs_read args rows (Some ps) in
+      let rest = pairs_give args rows (Some ps) in
+      subst (λ l. IsPermutation ((own ++ others) ++ l) (reads_in (flat_map (pair_marks args rows is cs) (p ∷ ps)))) (sym (flat_map-append (loops_reads is) given rest))
+      (subst (IsPermutation ((own ++ others) ++ (flat_map (loops_reads is) given ++ flat_map (loops_reads is) rest))) (sym (reads_append (pair_marks args rows is cs p) (flat_map (pair_marks args rows is cs) ps)))
+      (IsPermutation-trans _ _ _ (paired own others (flat_map (loops_reads is) given) (flat_map (loops_reads is) rest))
+      (IsPermutation-append (own ++ flat_map (loops_reads is) given) (reads_in (pair_marks args rows is cs p)) (others ++ flat_map (loops_reads is) rest) (reads_in (flat_map (pair_marks args rows is cs) ps)) (one_pair is p its.0) (all_pairs is ps its.1))))
+
+  abbrev OptionPlanned : Option (List Pair) → Type 0
+  OptionPlanned None = Unit {0}
+  OptionPlanned (Some ps) = PairsPlanned ps
+
+  whole : (ps : Option (List Pair)) (is : List PlannedItem) → OptionPlanned ps → ArePlanned is
+      → IsPermutation (pairs_read args rows ps ++ items_read args rows is (pairs_give args rows ps)) (reads_in (read_first is ++ all_joined args rows ps is cs))
+  whole None is their its =
+      subst (IsPermutation (items_read args rows is (no_tuple ∷ [])))
+      (ap (λ l. reads_in (read_first is) ++ l) (append-nil (loops_reads is no_tuple)) ∙ sym (reads_append (read_first is) (joined args rows is cs no_tuple)))
+      (last_joins is its (no_tuple ∷ []))
+  whole (Some ps) is their its =
+      let read = pairs_read args rows (Some ps) in
+      let given = pairs_give args rows (Some ps) in
+      let first = reads_in (read_first is) in
+      let behind = flat_map (loops_reads is) given in
+      subst (IsPermutation (read ++ items_read args rows is given)) (sym (reads_append (read_first is) (flat_map (pair_marks args rows is cs) ps)))
+      (IsPermutation-trans _ _ _ (IsPermutation-append_right read (items_read args rows is given) (first ++ behind) (last_joins is its given))
+      (IsPermutation-trans _ _ _ (to_front read first behind) (IsPermutation-append_right first (read ++ behind) (reads_in (flat_map (pair_marks args rows is cs) ps)) (all_pairs is ps their))))
+
+-- ---- the pairs of a plan
+
+over_planned : (how : Planning) (n : ℕ) (i : PlannedItem) → IsPlanned (over_partition how n i)
+over_planned how n i = let its = item_planned how i.number i.conjuncts (in_partition n i.tree) in record { kept = its.kept; once = its.once }
+
+pairs_planned : (how : Planning) (l r : PlannedItem) (args : List Value) (rows : Rows) (cs : List CondTree) (ns : List ℕ) → PairsPlanned args rows cs (filter both_keep (map (pair_at how l r) ns))
+pairs_planned how l r args rows cs [] = tt
+pairs_planned how l r args rows cs (n ∷ ns) = by (both_keep (pair_at how l r n)) (pairs_planned how l r args rows cs ns)
+  where
+    later : List Pair
+    later = filter both_keep (map (pair_at how l r) ns)
+
+    by : (b : Bool) → PairsPlanned args rows cs later → PairsPlanned args rows cs (if b then pair_at how l r n ∷ later else later)
+    by true go = ((over_planned how n l, (over_planned how n r, tt)), go)
+    by false go = go
+
+pairs_started : (given : List Value) (args : List Value) (rows : Rows) (cs : List CondTree) (ps : List Pair) → PairsPlanned args rows cs ps → PairsPlanned args rows cs (map (started_pair given) ps)
+pairs_started given args rows cs [] its = tt
+pairs_started given args rows cs (p ∷ ps) its = ((started_planned given p.left its.0.0, (started_planned given p.right its.0.1.0, tt)), pairs_started given args rows cs ps its.1)
+
+option_planned : (how : Planning) (args : List Value) (rows : Rows) (cs : List CondTree) (items : List PlannedItem) → OptionPlanned args rows cs (pairs_of how items)
+option_planned how args rows cs [] = tt
+option_planned how args rows cs (l ∷ []) = tt
+option_planned how args rows cs (l ∷ r ∷ is) = by (how.pairs && is_partitionwise l r)
+  where
+    by : (b : Bool) → OptionPlanned args rows cs (if b then Some (pairs_over how l r) else None)
+    by true = pairs_planned how l r args rows cs (partitions l.tree)
+    by false = tt
+
+option_started : (given : List Value) (args : List Value) (rows : Rows) (cs : List CondTree) (ps : Option (List Pair)) → OptionPlanned args rows cs ps → OptionPlanned args rows cs (option_map (map (started_pair given)) ps)
+option_started given args rows cs None its = tt
+option_started given args rows cs (Some ps) its = pairs_started given args rows cs ps its
+
+plan_pairs : (how : Planning) (args : List Value) (rows : Rows) (cs : List CondTree) (conditions : List CondTree) (trees : List TableTree) → OptionPlanned args rows cs (plan_by how args conditions trees).pairs
+plan_pairs how args rows cs conditions trees = by how.is_generic
+  where
+    plan : Planned
+    plan = plan_for how conditions trees
+
+    by : (b : Bool) → OptionPlanned args rows cs (if b then started args plan else plan).pairs
+    by true = option_started args args rows cs plan.pairs (option_planned how args rows cs plan.items)
+    by false = option_planned how args rows cs plan.items
+
+-- the items behind them
+behind_planned : {X : Type 0} (ps : Option X) (is : List PlannedItem) → ArePlanned is → ArePlanned (behind ps is)
+behind_planned None is its = its
+behind_planned (Some x) [] its = tt
+behind_planned (Some x) (i ∷ []) its = tt
+behind_planned (Some x) (i ∷ j ∷ is) its = its.1.1
 
 pub joins_read : JoinsReadTheirScans
 joins_read how args m rows trees = by (is_empty plan)
@@ -254,13 +362,11 @@ joins_read how args m rows trees = by (is_empty plan)
     plan : Planned
     plan = plan_by how args m.conditions trees
 
-    by : (b : Bool) → IsPermutation (if b then [] else items_read args rows plan.items (no_tuple ∷ [])) (reads_in (if b then [] else read_first plan.items ++ joined args rows plan.items plan.at_last no_tuple))
+    by : (b : Bool) → IsPermutation (if b then [] else pairs_read args rows plan.pairs ++ items_read args rows (unpaired plan) (pairs_give args rows plan.pairs)) (reads_in (if b then [] else read_first (unpaired plan) ++ all_joined args rows plan.pairs (unpaired plan) plan.at_last))
     by true = IsPermutation-refl []
     by false =
-        let first = reads_in (read_first plan.items) in
-        subst (IsPermutation (items_read args rows plan.items (no_tuple ∷ [])))
-        (ap (λ l. first ++ l) (append-nil (loops_reads args rows plan.at_last plan.items no_tuple)) ∙ sym (reads_append (read_first plan.items) (joined args rows plan.items plan.at_last no_tuple)))
-        (all_joins args rows plan.at_last plan.items (all_planned how args m.conditions trees) (no_tuple ∷ []))
+        whole args rows plan.at_last plan.pairs (unpaired plan) (plan_pairs how args rows plan.at_last m.conditions trees)
+        (behind_planned plan.pairs plan.items (all_planned how args m.conditions trees))
 
 -- ---- what holds of the leaves under the scans holds of those that are read
 
@@ -291,17 +397,41 @@ module _ (P : LeafId → Type 0) where
       (of_join i.join i its.0 left (in_first P (map id_of i.leaves) (map id_of others) parts))
       (of_items args rows is its.1 (joined_with args rows i left) (in_second P (map id_of i.leaves) (map id_of others) parts))
 
+-- the leaves of some items and those of others
+leaves_append : (is js : List PlannedItem) → map id_of (flat_map (λ (i : PlannedItem). i.leaves) (is ++ js)) ≡ map id_of (flat_map (λ (i : PlannedItem). i.leaves) is) ++ map id_of (flat_map (λ (i : PlannedItem). i.leaves) js)
+leaves_append is js =
+    ap (map id_of) (flat_map-append (λ (i : PlannedItem). i.leaves) is js) ∙ map-append id_of (flat_map (λ (i : PlannedItem). i.leaves) is) (flat_map (λ (i : PlannedItem). i.leaves) js)
+
+module _ (P : LeafId → Type 0) (args : List Value) (rows : Rows) (cs : List CondTree) where
+  of_pairs : (ps : List Pair) → PairsPlanned args rows cs ps → All P (map id_of (flat_map (λ i. i.leaves) (flat_map items_of ps))) → All P (pairs_read args rows (Some ps))
+  of_pairs [] its h = All-nil P
+  of_pairs (p ∷ ps) its h =
+      let own = map id_of (flat_map (λ (i : PlannedItem). i.leaves) (items_of p)) in
+      let others = map id_of (flat_map (λ (i : PlannedItem). i.leaves) (flat_map items_of ps)) in
+      let parts = subst (All P) (leaves_append (items_of p) (flat_map items_of ps)) h in
+      All-append P (items_read args rows (items_of p) (no_tuple ∷ [])) (pairs_read args rows (Some ps))
+      (of_items P args rows (items_of p) its.0 (no_tuple ∷ []) (in_first P own others parts)) (of_pairs ps its.1 (in_second P own others parts))
+
+  of_option : (ps : Option (List Pair)) → OptionPlanned args rows cs ps → All P (map id_of (flat_map (λ i. i.leaves) (paired_items ps))) → All P (pairs_read args rows ps)
+  of_option None its h = All-nil P
+  of_option (Some ps) its h = of_pairs ps its h
+
 pub are_scanned : ReadsAreScanned
 are_scanned how args m rows trees = All-permutation (Contains (map id_of (scanned plan))) (scans_read args rows plan) _ (joins_read how args m rows trees) (by (is_empty plan))
   where
     plan : Planned
     plan = plan_by how args m.conditions trees
 
-    by : (b : Bool) → All (Contains (map id_of (if b then [] else flat_map (λ i. i.leaves) plan.items))) (if b then [] else items_read args rows plan.items (no_tuple ∷ []))
+    by : (b : Bool) → All (Contains (map id_of (if b then [] else flat_map (λ i. i.leaves) (scanned_items plan)))) (if b then [] else pairs_read args rows plan.pairs ++ items_read args rows (unpaired plan) (pairs_give args rows plan.pairs))
     by true = All-nil (Contains [])
     by false =
-        let ids = map id_of (flat_map (λ i. i.leaves) plan.items) in
-        of_items (Contains ids) args rows plan.items (all_planned how args m.conditions trees) (no_tuple ∷ []) (All-contains_itself ids)
+        let P = Contains (map id_of (flat_map (λ (i : PlannedItem). i.leaves) (scanned_items plan))) in
+        let own = map id_of (flat_map (λ (i : PlannedItem). i.leaves) (paired_items plan.pairs)) in
+        let others = map id_of (flat_map (λ (i : PlannedItem). i.leaves) (unpaired plan)) in
+        let parts = subst (All P) (leaves_append (paired_items plan.pairs) (unpaired plan)) (All-contains_itself (map id_of (flat_map (λ (i : PlannedItem). i.leaves) (scanned_items plan)))) in
+        All-append P (pairs_read args rows plan.pairs) (items_read args rows (unpaired plan) (pairs_give args rows plan.pairs))
+        (of_option P args rows plan.at_last plan.pairs (plan_pairs how args rows plan.at_last m.conditions trees) (in_first P own others parts))
+        (of_items P args rows (unpaired plan) (behind_planned plan.pairs plan.items (all_planned how args m.conditions trees)) (pairs_give args rows plan.pairs) (in_second P own others parts))
 
 -- ---- scans that are reached
 
@@ -330,6 +460,23 @@ module _ (args : List Value) (rows : Rows) where
       (All-weaker (Contains own) (Contains (own ++ more)) (λ x at. Contains-append_left own more x at) (map id_of i.leaves) (item_reached i.join i left h.0))
       (All-weaker (Contains more) (Contains (own ++ more)) (λ x at. Contains-append_right own more x at) (map id_of others) (reached is (joined_with args rows i left) h.1)))
 
+  pairs_reached : (ps : List Pair) → All (λ p. AreReached args rows (items_of p) (no_tuple ∷ [])) ps → All (Contains (pairs_read args rows (Some ps))) (map id_of (flat_map (λ i. i.leaves) (flat_map items_of ps)))
+  pairs_reached [] h = All-nil (Contains [])
+  pairs_reached (p ∷ ps) h =
+      let Reached = λ (q : Pair). AreReached args rows (items_of q) (no_tuple ∷ []) in
+      let own = items_read args rows (items_of p) (no_tuple ∷ []) in
+      let more = pairs_read args rows (Some ps) in
+      let first = map id_of (flat_map (λ (i : PlannedItem). i.leaves) (items_of p)) in
+      let others = map id_of (flat_map (λ (i : PlannedItem). i.leaves) (flat_map items_of ps)) in
+      subst (All (Contains (own ++ more))) (sym (leaves_append (items_of p) (flat_map items_of ps)))
+      (All-append (Contains (own ++ more)) first others
+      (All-weaker (Contains own) (Contains (own ++ more)) (λ x at. Contains-append_left own more x at) first (reached (items_of p) (no_tuple ∷ []) (All-head Reached p ps h)))
+      (All-weaker (Contains more) (Contains (own ++ more)) (λ x at. Contains-append_right own more x at) others (pairs_reached ps (All-tail Reached p ps h))))
+
+  option_reached : (ps : Option (List Pair)) → PairsAreReached args rows ps → All (Contains (pairs_read args rows ps)) (map id_of (flat_map (λ i. i.leaves) (paired_items ps)))
+  option_reached None h = All-nil (Contains [])
+  option_reached (Some ps) h = pairs_reached ps h
+
 pub are_read : ReachedScansAreRead
 are_read how args m rows trees h =
     All-weaker (Contains (scans_read args rows plan)) (Contains (plan_reads how args m rows trees)) (λ x at. Contains-permutation (scans_read args rows plan) _ x (joins_read how args m rows trees) at) (map id_of (scanned plan)) (by (is_empty plan))
@@ -337,6 +484,14 @@ are_read how args m rows trees h =
     plan : Planned
     plan = plan_by how args m.conditions trees
 
-    by : (b : Bool) → All (Contains (if b then [] else items_read args rows plan.items (no_tuple ∷ []))) (map id_of (if b then [] else flat_map (λ i. i.leaves) plan.items))
+    by : (b : Bool) → All (Contains (if b then [] else pairs_read args rows plan.pairs ++ items_read args rows (unpaired plan) (pairs_give args rows plan.pairs))) (map id_of (if b then [] else flat_map (λ i. i.leaves) (scanned_items plan)))
     by true = All-nil (Contains [])
-    by false = reached args rows plan.items (no_tuple ∷ []) h
+    by false =
+        let read = pairs_read args rows plan.pairs in
+        let more = items_read args rows (unpaired plan) (pairs_give args rows plan.pairs) in
+        let own = map id_of (flat_map (λ (i : PlannedItem). i.leaves) (paired_items plan.pairs)) in
+        let others = map id_of (flat_map (λ (i : PlannedItem). i.leaves) (unpaired plan)) in
+        subst (All (Contains (read ++ more))) (sym (leaves_append (paired_items plan.pairs) (unpaired plan)))
+        (All-append (Contains (read ++ more)) own others
+        (All-weaker (Contains read) (Contains (read ++ more)) (λ x at. Contains-append_left read more x at) own (option_reached args rows plan.pairs h.0))
+        (All-weaker (Contains more) (Contains (read ++ more)) (λ x at. Contains-append_right read more x at) others (reached args rows (unpaired plan) (pairs_give args rows plan.pairs) h.1)))

@@ -1,6 +1,6 @@
 -- A SELECT by its plan is one that scans all leaves.
 use Rattle.std.proofs.Common.{◌≡◌, ℕ, ◌-◌, ◌≤◌, ◌==◌, ◌&&◌, ◌||◌, arith, subst, append-nil, Bool, true, false, if◌then◌else◌, List, [], ◌∷◌, ◌++◌, inl, inr, refl, ap, sym, ◌∙◌, length, map}
-use Rattle.std.specs.Prelude.{Result, Ok, Err}
+use Rattle.std.specs.Prelude.{None, Result, Ok, Err}
 use Rattle.std.proofs.lemmas.List.{length-append, length-map, map-append}
 use Rattle.std.proofs.lemmas.List.Elements.{All-cons, All-nil}
 use Rattle.pg_values.specs.declared.fault.Fault.{Fault}
@@ -111,7 +111,7 @@ one_started args i one = by i.is_asked_at_start
     by true = record { once = one.once; few = kept_few (keeps_for true i.number (kept_at_start args i)) i.tree }
     by false = one
 
-few_of : OneItemIsReadOnce → (args : List Value) (rows : Rows) (tree : TableTree) (i : PlannedItem) (at_last : List CondTree) → IsOne tree i → length (reads_in (marks args rows (record { items = i ∷ []; at_last = at_last }))) ≤ length (leaves tree)
+few_of : OneItemIsReadOnce → (args : List Value) (rows : Rows) (tree : TableTree) (i : PlannedItem) (at_last : List CondTree) → IsOne tree i → length (reads_in (marks args rows (record { items = i ∷ []; pairs = None; at_last = at_last }))) ≤ length (leaves tree)
 few_of once args rows tree i at_last one =
     let count = ap length (once args rows i at_last one.once) ∙ length-map i.leaves id_of in
     let few = one.few in
@@ -252,7 +252,7 @@ one_table_plain lawful small once pruned h good how names params c t table looks
 
 -- ---- the scans of a plan
 
-scans_of_one : (i : PlannedItem) (at_last : List CondTree) → i.leaves ≡ scanned (record { items = i ∷ []; at_last = at_last })
+scans_of_one : (i : PlannedItem) (at_last : List CondTree) → i.leaves ≡ scanned (record { items = i ∷ []; pairs = None; at_last = at_last })
 scans_of_one i at_last = by i.leaves refl
   where
     -- whether nothing was kept or all was removed
@@ -273,7 +273,7 @@ reads_its_scans once how args m rows tree = by how.is_generic
     item : PlannedItem
     item = item_for how 0 (asked_at 0 cs) tree
 
-    one : (i : PlannedItem) → IsOne tree i → reads_in (marks args rows (record { items = i ∷ []; at_last = asked_later 0 cs })) ≡ map id_of (scanned (record { items = i ∷ []; at_last = asked_later 0 cs }))
+    one : (i : PlannedItem) → IsOne tree i → reads_in (marks args rows (record { items = i ∷ []; pairs = None; at_last = asked_later 0 cs })) ≡ map id_of (scanned (record { items = i ∷ []; pairs = None; at_last = asked_later 0 cs }))
     one i is = once args rows i (asked_later 0 cs) is.once ∙ ap (map id_of) (scans_of_one i (asked_later 0 cs))
 
     by : (b : Bool) → reads_in (marks args rows (if b then started args (plan_for how m.conditions (tree ∷ [])) else plan_for how m.conditions (tree ∷ [])))

@@ -1,6 +1,6 @@
 -- The parts of a SELECT, one after another.
 use Rattle.std.proofs.Common.{◌≡◌, ℕ, suc, ◌+◌, ◌<◌, ◌≤◌, Bool, true, false, if◌then◌else◌, arith, List, [], ◌∷◌, ◌++◌, refl, ap, sym, subst, ◌∙◌, append_assoc, drop, Result, Ok, Err, IfOk, All, map, length}
-use Rattle.std.specs.Prelude.{nat_le}
+use Rattle.std.specs.Prelude.{◌&&◌, Option, Some, None, filter, nat_le}
 use Rattle.std.specs.List.{flat_map, slice_index_or}
 use Rattle.std.proofs.lemmas.Bool.Decides.{nat_tests}
 use Rattle.std.proofs.lemmas.List.{length-map, map-append, drop_more}
@@ -31,8 +31,10 @@ use Rattle.sql_binder.specs.From.{item_name, twice_faults}
 use Rattle.sql_binder.specs.Selects.{bound_select, from_of, name_faults, constant_faults, meaning}
 use Rattle.sql_binder.specs.Values.{custom_select, if_bound, values_of, with_values}
 use Rattle.plan_tree.specs.Conjuncts.{pool, asked_at, asked_later}
-use Rattle.plan_tree.specs.Plans.{PlannedItem, Planned, keeps_first, item_for, items_from, plan_for, is_empty, plan_tables, started_item, started, started_by, plan_by, CanRead}
+use Rattle.plan_tree.specs.Parts.{partitions}
+use Rattle.plan_tree.specs.Plans.{PlannedItem, Planned, Pair, all_items, both, both_keep, is_partitionwise, over_partition, pair_at, paired, pairs_of, pairs_over, keeps_first, item_for, items_from, plan_for, is_empty, plan_tables, started_item, started, started_by, plan_by, CanRead}
 use Rattle.plan_tree.specs.declared.planning.Planning.{Planning}
+use Rattle.plan_tree.proofs.Partitions.{partition_prunes}
 use Rattle.select_answer.proofs.Kept.{plan_read as read_by}
 use Rattle.stores.specs.Events.{look_of}
 use Rattle.stores.specs.Laws.{LeavesAreHoused}
@@ -85,10 +87,36 @@ items_locked stores caller how n cs (t ∷ ts) its =
     (tables_kept (MayLock stores caller) (keeps_first how.prunes n (asked_at n cs)) t its.0.locks) (items_locked stores caller how (n + 1) (asked_later n cs) ts its.1)
 
 -- the trees of its items can be pruned
+abbrev Prunes : PlannedItem → Type 0
+Prunes i = CanPrune i.tree
+
 items_prunable : (stores : Stores) (caller : Caller) (how : Planning) (n : ℕ) (cs : List CondTree) (trees : List TableTree) → AreTreesFor stores caller trees → All (λ (i : PlannedItem). CanPrune i.tree) (items_from how n cs trees)
 items_prunable stores caller how n cs [] its = All-nil (λ (i : PlannedItem). CanPrune i.tree)
 items_prunable stores caller how n cs (t ∷ ts) its =
     All-cons (λ (i : PlannedItem). CanPrune i.tree) (item_for how n (asked_at n cs) t) (items_from how (n + 1) (asked_later n cs) ts) its.0.prunable (items_prunable stores caller how (n + 1) (asked_later n cs) ts its.1)
+
+-- also those of the partitions that are joined by themselves
+pairs_prunable : (how : Planning) (l r : PlannedItem) → Prunes l → Prunes r → (ns : List ℕ) → All Prunes (flat_map both (filter both_keep (map (pair_at how l r) ns)))
+pairs_prunable how l r left right [] = All-nil Prunes
+pairs_prunable how l r left right (n ∷ ns) = by (both_keep (pair_at how l r n)) (pairs_prunable how l r left right ns)
+  where
+    later : List Pair
+    later = filter both_keep (map (pair_at how l r) ns)
+
+    by : (b : Bool) → All Prunes (flat_map both later) → All Prunes (flat_map both (if b then pair_at how l r n ∷ later else later))
+    by true go =
+        All-cons Prunes (over_partition how n l) (over_partition how n r ∷ flat_map both later) (partition_prunes n l.tree left)
+        (All-cons Prunes (over_partition how n r) (flat_map both later) (partition_prunes n r.tree right) go)
+    by false go = go
+
+paired_prunable : (how : Planning) (items : List PlannedItem) → All Prunes items → All Prunes (paired (pairs_of how items))
+paired_prunable how [] can = All-nil Prunes
+paired_prunable how (l ∷ []) can = All-nil Prunes
+paired_prunable how (l ∷ r ∷ is) can = by (how.pairs && is_partitionwise l r)
+  where
+    by : (b : Bool) → All Prunes (paired (if b then Some (pairs_over how l r) else None))
+    by true = pairs_prunable how l r (All-head Prunes l (r ∷ is) can) (All-head Prunes r is (All-tail Prunes l (r ∷ is) can)) (partitions l.tree)
+    by false = All-nil Prunes
 
 none_or : (stores : Stores) (caller : Caller) (b : Bool) (tables : List TableNo) → All (MayLock stores caller) tables → All (MayLock stores caller) (if b then [] else tables)
 none_or stores caller true tables all = All-nil (MayLock stores caller)
@@ -96,13 +124,16 @@ none_or stores caller false tables all = all
 
 module _ {X : Type 0} (stores : Stores) (caller : Caller) (conditions : List CondTree) (f : X → TableTree) (xs : List X) (its : All (λ x. IsTreeFor stores caller (f x)) xs) where
   -- once it is started
-  pub plan_read : (how : Planning) (args : List Value) (plan : Planned) → plan ≡ plan_by how args conditions (map f xs) → All (CanRead stores.rows.leaves) plan.items
+  pub plan_read : (how : Planning) (args : List Value) (plan : Planned) → plan ≡ plan_by how args conditions (map f xs) → All (CanRead stores.rows.leaves) (all_items plan)
   plan_read how args plan is =
       read_by f stores.rows.leaves how args conditions xs plan (can_prune_all stores caller f xs its) (all_more (λ x. IsTreeFor stores caller (f x)) (λ x. HasLeaves stores (f x)) xs (λ x t. t.leaves) its) is
 
   -- before that
-  pub plan_prunable : (how : Planning) (plan : Planned) → plan ≡ plan_for how conditions (map f xs) → All (λ i. CanPrune i.tree) plan.items
-  plan_prunable how plan is = subst (λ (p : Planned). All (λ (i : PlannedItem). CanPrune i.tree) p.items) (sym is) (items_prunable stores caller how 0 (pool conditions) (map f xs) (trees_for_all stores caller f xs its))
+  pub plan_prunable : (how : Planning) (plan : Planned) → plan ≡ plan_for how conditions (map f xs) → All Prunes (all_items plan)
+  plan_prunable how plan is =
+      let items = items_from how 0 (pool conditions) (map f xs) in
+      let can = items_prunable stores caller how 0 (pool conditions) (map f xs) (trees_for_all stores caller f xs its) in
+      subst (λ (p : Planned). All Prunes (all_items p)) (sym is) (All-append Prunes items (paired (pairs_of how items)) can (paired_prunable how items can))
 
   pub plan_locked : (how : Planning) (plan : Planned) → plan ≡ plan_for how conditions (map f xs) → All (MayLock stores caller) (plan_tables plan)
   plan_locked how plan is =

@@ -1,6 +1,6 @@
 -- What the scans of a plan read (the manual, 14.1 Using EXPLAIN): a Nested Loop runs those of its right item beside each tuple
--- of its left side, a Hash Join once.
-use Rattle.std.specs.Prelude.{◌≡◌, ◌<◌, false, All, if◌then◌else◌, List, [], ◌∷◌, ◌++◌, length, map, filter}
+-- of its left side, a Hash Join once, and a partitionwise join those of its pairs by themselves.
+use Rattle.std.specs.Prelude.{◌≡◌, ◌<◌, false, All, if◌then◌else◌, List, [], ◌∷◌, ◌++◌, Option, Some, None, length, map, filter}
 use Rattle.std.specs.List.{Contains, flat_map}
 use Rattle.std.specs.List.Sorted.{IsPermutation}
 use Rattle.pg_values.specs.declared.ids.LeafId.{LeafId}
@@ -9,7 +9,7 @@ use Rattle.row_router.specs.Trees.{TableTree}
 use Rattle.cond_logic.specs.Asked.{SelectMeant}
 use Rattle.plan_tree.specs.Kept.{id_of}
 use Rattle.plan_tree.specs.Laws.{Rows}
-use Rattle.plan_tree.specs.Plans.{PlannedItem, Planned, is_empty, leaves_for, plan_by}
+use Rattle.plan_tree.specs.Plans.{PlannedItem, Planned, Pair, both, unpaired, is_empty, leaves_for, plan_by}
 use Rattle.plan_tree.specs.declared.join_kind.JoinKind.{JoinKind}
 use Rattle.plan_tree.specs.declared.join_kind.JoinKind.TheVariants.{NestedLoop, HashJoin}
 use Rattle.plan_tree.specs.declared.planning.Planning.{Planning}
@@ -36,8 +36,23 @@ abbrev pub items_read : (args : List Value) → Rows → List PlannedItem → (l
 items_read args rows [] left = []
 items_read args rows (i ∷ is) left = item_reads i.join i left ++ items_read args rows is (joined_with args rows i left)
 
+abbrev pub all_joined_with : (args : List Value) → Rows → List PlannedItem → List Tuple → List Tuple
+all_joined_with args rows [] left = left
+all_joined_with args rows (i ∷ is) left = all_joined_with args rows is (joined_with args rows i left)
+
+-- ---- pair by pair
+
+abbrev pub pairs_read : (args : List Value) → Rows → Option (List Pair) → List LeafId
+pairs_read args rows None = []
+pairs_read args rows (Some pairs) = flat_map (λ p. items_read args rows (both p) (no_tuple ∷ [])) pairs
+
+-- the tuples with which the other items are joined
+abbrev pub pairs_give : (args : List Value) → Rows → Option (List Pair) → List Tuple
+pairs_give args rows None = no_tuple ∷ []
+pairs_give args rows (Some pairs) = flat_map (λ p. all_joined_with args rows (both p) (no_tuple ∷ [])) pairs
+
 abbrev pub scans_read : (args : List Value) → Rows → Planned → List LeafId
-scans_read args rows p = if is_empty p then [] else items_read args rows p.items (no_tuple ∷ [])
+scans_read args rows p = if is_empty p then [] else pairs_read args rows p.pairs ++ items_read args rows (unpaired p) (pairs_give args rows p.pairs)
 
 -- ---- the plan that is printed is the one that runs
 
@@ -59,7 +74,14 @@ abbrev pub AreReached : (args : List Value) → Rows → List PlannedItem → (l
 AreReached args rows [] left = Unit {0}
 AreReached args rows (i ∷ is) left = IsReached i.join i left × AreReached args rows is (joined_with args rows i left)
 
+abbrev pub PairsAreReached : (args : List Value) → Rows → Option (List Pair) → Type 0
+PairsAreReached args rows None = Unit {0}
+PairsAreReached args rows (Some pairs) = All (λ p. AreReached args rows (both p) (no_tuple ∷ [])) pairs
+
+abbrev pub IsPlanReached : (args : List Value) → Rows → Planned → Type 0
+IsPlanReached args rows p = PairsAreReached args rows p.pairs × AreReached args rows (unpaired p) (pairs_give args rows p.pairs)
+
 -- then each leaf under a scan that is printed is read
 abbrev pub ReachedScansAreRead : Type 0
-ReachedScansAreRead = (how : Planning) (args : List Value) (m : SelectMeant) (rows : Rows) (trees : List TableTree) → AreReached args rows (plan_by how args m.conditions trees).items (no_tuple ∷ [])
+ReachedScansAreRead = (how : Planning) (args : List Value) (m : SelectMeant) (rows : Rows) (trees : List TableTree) → IsPlanReached args rows (plan_by how args m.conditions trees)
     → All (Contains (plan_reads how args m rows trees)) (map id_of (scanned (plan_by how args m.conditions trees)))

@@ -122,6 +122,6 @@ abbrev pub of_items : Planning → List (List ℕ) → List Param → Caller →
 of_items how names params c t [] = follow (begins c) (λ u. bare params c t)
 of_items how names params c t (j ∷ js) = follow (begins c) (λ u. of_named how names params c t)
 
--- of a session that plans so (`enable_partition_pruning`, `enable_hashjoin`, and for a prepared statement `plan_cache_mode`)
+-- of a session that plans so (`enable_partition_pruning`, `enable_hashjoin`, `enable_partitionwise_join`, and for a prepared statement `plan_cache_mode`)
 abbrev pub selected : Planning → List (List ℕ) → List Param → Caller → SelectTree → History → Made Told
 selected how names params c t = of_items how names params c t (from_of t)

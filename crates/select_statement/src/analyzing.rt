@@ -3,7 +3,7 @@
 ghost use Rattle.std.specs.Prelude.{◌≡◌, ◌+◌, ◌≤◌, [], All, length};
 ghost use Rattle.sql_ast.specs.Queries.{select_tree};
 ghost use Rattle.sql_binder.specs.Selects.{from_of};
-ghost use Rattle.plan_tree.specs.Plans.{CanRead, planned};
+ghost use Rattle.plan_tree.specs.Plans.{CanRead, all_items, planned};
 ghost use Rattle.statement_steps.specs.Attempts.{MayAttempt};
 ghost use Rattle.statement_steps.specs.Steps.{IsStep};
 ghost use Rattle.select_statement.specs.Explained.{AnalyzesRunTheirSelect};
@@ -41,7 +41,7 @@ fn run_counted(
     requires may { MayAttempt stores.now caller }
     requires each { length found.now.trees.items ≡ length (from_of (select_tree select.now)) }
     requires few { length (planned plan.now).items ≤ 4 }
-    requires reads { All (CanRead stores.now.rows.leaves) (planned plan.now).items }
+    requires reads { All (CanRead stores.now.rows.leaves) (all_items (planned plan.now)) }
     requires look { IsLookFor stores.now caller found.now.snap }
     ensures { IsStep (λ a. a) result stores.now stores.now caller (caller.cmd + 1) (explained.run_counted caller args.now (select_tree select.now) (found_by found.now) (planned plan.now)) }
 {

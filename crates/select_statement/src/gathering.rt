@@ -6,7 +6,7 @@ ghost use Rattle.row_router.specs.Seen.{seen};
 ghost use Rattle.sql_ast.specs.Queries.{select_tree};
 ghost use Rattle.sql_binder.specs.Selects.{from_of};
 ghost use Rattle.cond_logic.specs.Asked.{select_meant};
-ghost use Rattle.plan_tree.specs.Plans.{CanRead, planned, started_by};
+ghost use Rattle.plan_tree.specs.Plans.{CanRead, all_items, planned, started_by};
 ghost use Rattle.plan_tree.specs.Prunable.{CanPrune};
 ghost use Rattle.stores.specs.Stand.{Stands};
 ghost use Rattle.statement_steps.specs.Attempts.{MayAttempt};
@@ -151,7 +151,7 @@ fn start_by<'t>(
     args: &[Value],
     plan: Plan<'t>,
 ) -> Result<Plan<'t>, NoMemory>
-    requires { All (λ i. CanPrune i.tree) (planned plan).items }
+    requires { All (λ i. CanPrune i.tree) (all_items (planned plan)) }
     ensures { IfOk result (λ p. planned p ≡ started_by how args.now (planned plan.entry)) }
 {
     if how.is_generic {
@@ -175,7 +175,7 @@ pub(crate) fn plan_under<'t>(
     requires few { length found.now.trees.items ≤ 4 }
     requires trees { All (λ t. IsTreeFor stores.old caller (seen t)) found.now.trees.items }
     ensures step { IsStep planned result stores.old stores.new caller caller.cmd (gathered.planned_under how names.now caller args.now (found_by found.now)) }
-    ensures reads { IfOk result (λ p. All (CanRead stores.new.rows.leaves) (planned p).items) }
+    ensures reads { IfOk result (λ p. All (CanRead stores.new.rows.leaves) (all_items (planned p))) }
     ensures few { IfOk result (λ p. length (planned p).items ≤ 4) }
     ensures rest { stores.new ≡ record stores.old { locks = stores.new.locks } }
 {

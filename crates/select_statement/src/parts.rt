@@ -5,7 +5,7 @@ ghost use Rattle.cond_logic.specs.Asked.{select_meant};
 ghost use Rattle.expression_binder.specs.Firsts.{IsAnswerBy};
 ghost use Rattle.plan_tree.specs.Counts.{answered_with, counted};
 ghost use Rattle.plan_tree.specs.Laws.{shown};
-ghost use Rattle.plan_tree.specs.Plans.{CanRead, planned};
+ghost use Rattle.plan_tree.specs.Plans.{CanRead, all_items, planned};
 ghost use Rattle.select_answer.specs.Happenings.{happenings};
 ghost use Rattle.sql_binder.specs.Values.{custom_select};
 ghost use Rattle.stores.specs.Events.{look_of};
@@ -119,7 +119,7 @@ pub(crate) fn answer_counted(
     counts: &mut PlanCounts,
 ) -> Result<Answered, Stop>
     requires may { MayAttempt stores.now caller }
-    requires reads { All (CanRead stores.now.rows.leaves) (planned plan.now).items }
+    requires reads { All (CanRead stores.now.rows.leaves) (all_items (planned plan.now)) }
     requires look { IsLookFor stores.now caller snap.now }
     ensures step { IsStep selected.told_by result stores.now stores.now caller (caller.cmd + 1) (selected.answered caller args.now (select_meant ask.now) (planned plan.now)) }
     ensures counts { (h : History) → Stands stores.now h → IfOk result (λ a. counts.new ≡ answered_with (length a.answer.rows)
@@ -145,7 +145,7 @@ pub(crate) fn answer(
     snap: &Snapshot,
 ) -> Result<Answered, Stop>
     requires may { MayAttempt stores.now caller }
-    requires reads { All (CanRead stores.now.rows.leaves) (planned plan.now).items }
+    requires reads { All (CanRead stores.now.rows.leaves) (all_items (planned plan.now)) }
     requires look { IsLookFor stores.now caller snap.now }
     ensures { IsStep selected.told_by result stores.now stores.now caller (caller.cmd + 1) (selected.answered caller args.now (select_meant ask.now) (planned plan.now)) }
 {

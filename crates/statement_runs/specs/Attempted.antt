@@ -60,7 +60,7 @@ is_generic ForceGenericPlan = true
 is_generic _ = false
 
 abbrev pub planning_of : Settings → Planning
-planning_of g = record { prunes = g.enable_partition_pruning; hashes = g.enable_hashjoin; is_generic = is_generic g.plan_cache_mode }
+planning_of g = record { prunes = g.enable_partition_pruning; hashes = g.enable_hashjoin; pairs = g.enable_partitionwise_join; is_generic = is_generic g.plan_cache_mode }
 
 -- ---- what is printed
 

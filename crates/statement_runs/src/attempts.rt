@@ -149,6 +149,7 @@ fn planning_of(settings: Settings) -> Planning
     Planning {
         prunes: settings.enable_partition_pruning,
         hashes: settings.enable_hashjoin,
+        pairs: settings.enable_partitionwise_join,
         is_generic: matches!(settings.plan_cache_mode, PlanCacheMode::ForceGenericPlan),
     }
 }

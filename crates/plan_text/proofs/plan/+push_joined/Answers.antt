@@ -12,5 +12,5 @@ returns-in_ok-push_joined-in-Some t c =
     let all = ap (map planned_item) c.in-Some.ensures.cases.0 ∙ map-append planned_item before (last ∷ []) in
     let some = some_items planned_item before (sym c.is_empty.ensures ∙ c.if-is_empty.false) in
     on_ok c.push_item-in-Some.result
-    (λ pushed. join_told c.args.items.now (lent c.args.counts) (map planned_item before) (planned_item last) (map planned_item c.args.joined.now) c.args.depth _ _ _ _ _ _ c.deref.result.now some all c.join_text.ensures c.of_join-count.ensures
-    (c.deref.ensures.value ∙ c.in_ok-details-in-Some.ensures) c.in_ok-push_node-in-Some.ensures c.in_ok-push_joined-in-Some.ensures pushed) c.push_item-in-Some.ensures
+    (λ pushed. join_told c.args.items.now (lent c.args.counts) (map planned_item before) (planned_item last) (map planned_item c.args.joined.now) c.args.depth _ _ _ _ some all
+    c.in_ok-push_join-in-Some.ensures c.in_ok-push_joined-in-Some.ensures pushed) c.push_item-in-Some.ensures

@@ -1,4 +1,4 @@
-use Rattle.std.proofs.Common.{◌≡◌, ◌+◌, ◌-◌, ◌≤◌, ◌∙◌, arith, drop, length, length-drop, rules, sym, true}
+use Rattle.std.proofs.Common.{◌≡◌, ◌-◌, ◌∙◌, arith, drop, length-drop, rules, sym, true}
 use Rattle.std.proofs.lemmas.List.{length-take-le}
 use Rattle.select_answer.specs.Keys.{row_less}
 use Rattle.select_answer.proofs.SortedParts.{no_part, part_sorted, part_stable}

@@ -3,7 +3,7 @@ use Rattle.std.proofs.lemmas.List.Elements.{All-nil}
 use Rattle.row_router.specs.Seen.{seen}
 use Rattle.sql_ast.specs.Queries.{select_tree}
 use Rattle.cond_logic.specs.Trees.{cond_tree}
-use Rattle.plan_tree.specs.Plans.{Planned, CanRead, plan_for}
+use Rattle.plan_tree.specs.Plans.{Planned, CanRead, all_items, plan_for}
 use Rattle.plan_tree.specs.Prunable.{CanPrune}
 use Rattle.statement_steps.proofs.Parts.{out_here}
 use Rattle.statement_steps.proofs.Steps.{goes, handed_on, moved, stops}
@@ -35,7 +35,7 @@ run_counted-requires-clause-few c =
 
 pub run_counted-requires-clause-reads : goal.run_counted-requires-clause-reads
 run_counted-requires-clause-reads c =
-    subst (λ (p : Planned). All (CanRead c.args.stores.now.rows.leaves) p.items)
+    subst (λ (p : Planned). All (CanRead c.args.stores.now.rows.leaves) (all_items p))
     (sym (c.in_ok-plan.ensures ∙ ap (λ ts. plan_for c.without_from.result (map cond_tree c.as_slice.result.now) (map seen ts)) (c.deref.ensures.value ∙ c.in_ok-found.ensures.trees))) (All-nil (CanRead c.args.stores.now.rows.leaves))
 
 pub returns : goal.returns

@@ -2,7 +2,7 @@ use Rattle.std.proofs.Common.{◌∙◌, ◌≤◌, [], All, ap, length, map, su
 use Rattle.row_router.specs.Seen.{seen}
 use Rattle.cond_logic.specs.Trees.{cond_tree}
 use Rattle.cond_logic.specs.Asked.{select_meant}
-use Rattle.plan_tree.specs.Plans.{plan_for, planned, plan_tables, started_by}
+use Rattle.plan_tree.specs.Plans.{all_items, plan_for, planned, plan_tables, started_by}
 use Rattle.statement_steps.specs.Made.{made}
 use Rattle.statement_steps.specs.Steps.{IsStep}
 use Rattle.statement_steps.proofs.Parts.{nothing_done, out_here}
@@ -55,7 +55,7 @@ returns-clause-step c =
 
 pub returns-clause-reads : goal.returns-clause-reads
 returns-clause-reads c =
-    reads_stay c.args.stores.now c.lock_below.new.stores (planned c.in_ok-started.started).items c.lock_below.ensures.rest
+    reads_stay c.args.stores.now c.lock_below.new.stores (all_items (planned c.in_ok-started.started)) c.lock_below.ensures.rest
     (plan_read c.args.stores.now c.args.caller (select_meant c.args.found.now.ask).conditions seen c.args.found.now.trees.items c.requires.trees c.args.how c.args.args.now _
     (c.in_ok-started.ensures ∙ ap (started_by c.args.how c.args.args.now) (c.in_ok-plan.ensures ∙ ap (λ cs. plan_for c.args.how (map cond_tree cs) (map seen c.deref.result.now)) c.as_slice.ensures
     ∙ ap (λ ts. plan_for c.args.how (select_meant c.args.found.now.ask).conditions (map seen ts)) c.deref.ensures.value)))

@@ -4,7 +4,7 @@ use Rattle.row_router.specs.Seen.{seen}
 use Rattle.sql_ast.specs.Queries.{select_tree}
 use Rattle.cond_logic.specs.Trees.{cond_tree}
 use Rattle.cond_logic.specs.Asked.{select_meant}
-use Rattle.plan_tree.specs.Plans.{Planned, CanRead, plan_for}
+use Rattle.plan_tree.specs.Plans.{Planned, CanRead, all_items, plan_for}
 use Rattle.plan_tree.specs.Prunable.{CanPrune}
 use Rattle.statement_steps.proofs.Steps.{goes, handed_on, may_go_on, moved, out_behind, stops}
 use Rattle.select_statement.specs.Gathered.{gathered_bare}
@@ -38,7 +38,7 @@ answer-requires-clause-may c = may_go_on _ _ _ _ _ _ c.requires c.in_ok-hold_if_
 
 pub answer-requires-clause-reads : goal.answer-requires-clause-reads
 answer-requires-clause-reads c =
-    subst (λ (p : Planned). All (CanRead c.hold_if_repeatable.new.stores.rows.leaves) p.items)
+    subst (λ (p : Planned). All (CanRead c.hold_if_repeatable.new.stores.rows.leaves) (all_items p))
     (sym (c.in_ok-plan.ensures ∙ ap (λ ts. plan_for c.without_from.result (map cond_tree c.as_slice.result.now) (map seen ts)) (c.deref.ensures.value ∙ c.in_ok-found.ensures.trees))) (All-nil (CanRead c.hold_if_repeatable.new.stores.rows.leaves))
 
 pub returns : goal.returns
