@@ -23,6 +23,13 @@ class Level:
         return (self.strategy, self.places, self.kinds) == (other.strategy, other.places, other.kinds)
 
 
+def are_equal(bound, other):
+    """Whether two bounds are equal: lists have the same values, in whatever order."""
+    def told(bound):
+        return {name: set(of) if name == "values" else of for name, of in vars(bound).items()}
+    return type(bound) is type(other) and told(bound) == told(other)
+
+
 class Range:
     def __init__(self, low, high):
         self.low, self.high = low, high

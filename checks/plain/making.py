@@ -52,6 +52,7 @@ KINDS = {
     "cancels": {"select": 3, "insert": 4, "delete": 4, "lock": 4, "cancel": 5},
     "joins": {"join": 12, "select": 1, "lock": 4, "insert": 4, "delete": 1, "setting": 2},
     "hashed": {"join": 9, "plan": 6, "insert": 4, "update": 2, "delete": 2, "lock": 1, "setting": 3, "mode": 1},
+    "pairs": {"join": 10, "plan": 6, "insert": 4, "update": 2, "delete": 2, "lock": 1, "setting": 2, "mode": 1, "attach": 1, "detach": 1},
     "sorted": {
         "plan": 6, "select": 6, "insert": 4, "update": 3, "delete": 2, "lock": 1, "setting": 2, "mode": 1, "detach": 1, "partition": 1,
     },
@@ -106,7 +107,8 @@ class Maker:
         self.tables, self.parents, self.plain, self.keys = [], {}, [], []
         self.free = self.numbers.of((0, 1, 2, 2)) if self.default_chance() else self.numbers.of((2, 2, None))
         self.free_bound, self.own_bounds, self.cut_off = "", {}, ""
-        self.prepares, self.has_all = kind in ("prepared", "generic", "analyzed", "hashed", "sorted"), False
+        self.is_hashed = kind in ("hashed", "pairs")
+        self.prepares, self.has_all = self.is_hashed or kind in ("prepared", "generic", "analyzed", "sorted"), False
         self.prepared = {}       # by their names: the first words and the kinds of the parameters
 
     # ---- tables
@@ -236,6 +238,8 @@ class Maker:
             for _ in range(2 + numbers.below(3)):
                 given = ", ".join(numbers.of(VALUES[kind]) for kind in "dcf")
                 self.setup.append(f"INSERT INTO w VALUES ({numbers.of(('NULL', numbers.below(20)))}, {self.second()}, {given});")
+        if self.kind == "pairs":
+            self.make_like(kinds)
         taken = [key for key in range(30) if "pd" in self.tables or self.place_of(key) not in (self.free, None)]
         if self.kind == "above":
             self.cut_off = numbers.of(sorted(self.own_bounds))
@@ -252,6 +256,34 @@ class Maker:
                 self.keys += keys
                 self.setup.append(f"INSERT INTO {name} VALUES ({keys[0]}, 1), ({keys[1]}, 2);")
 
+    def make_like(self, kinds):
+        """A table that is mostly partitioned as t is, and rows of it."""
+        numbers, strategy = self.numbers, self.parents["t"][0]
+        kinds = kinds.replace("a int", "a bigint") if numbers.chance(8) else kinds
+        column = "v" if numbers.chance(8) else "a"
+        self.plain.append("u")
+        self.setup.append(f"CREATE TABLE u ({kinds}) PARTITION BY {strategy} ({column});")
+        kept = {place: bound for place, bound in sorted(self.own_bounds.items()) if not numbers.chance(6)}
+        if ("pd" in self.tables) != (strategy != "HASH" and numbers.chance(8)):
+            kept["pd"] = "DEFAULT"
+        for place, bound in sorted(kept.items()):
+            if strategy == "LIST" and numbers.chance(40):
+                # (its values in another order)
+                bound = re.sub(r"\((.*)\)", lambda of: f"({', '.join(reversed(of[1].split(', ')))})", bound)
+            if strategy == "RANGE" and numbers.chance(4):
+                bound = re.sub(r"TO \((\d+)\)", lambda of: f"TO ({int(of[1]) - 1})", bound)
+            name, below = place.replace("p", "u"), numbers.chance(20)
+            self.plain.append(name)
+            self.setup.append(f"CREATE TABLE {name} PARTITION OF u {bound}{' PARTITION BY LIST (v)' if below else ''};")
+            if below:
+                for inner, one in enumerate(("FOR VALUES IN (0, 1)", "FOR VALUES IN (2, NULL)", "DEFAULT")):
+                    self.plain.append(f"{name}_{inner}")
+                    self.setup.append(f"CREATE TABLE {name}_{inner} PARTITION OF {name} {one};")
+        fitting = [key for key in range(29) if key % 10 < 9 and f"p{self.place_of(key)}" in kept]
+        if fitting and column == "a":
+            rows = [f"({numbers.of(fitting)}, {numbers.below(4)})" for _ in range(2 + numbers.below(5))]
+            self.setup.append(f"INSERT INTO u VALUES {', '.join(rows)};")
+
     def place_of(self, key):
         """Which of the three places of the root accepts a key."""
         strategy = self.parents["t"][0]
@@ -266,6 +298,8 @@ class Maker:
         numbers = self.numbers
         if self.kind == "above" and numbers.chance(90):
             return self.inner_table()
+        if self.kind == "pairs" and numbers.chance(35):
+            return "u"
         if numbers.chance(55):
             return "t"
         if numbers.chance(80):
@@ -319,7 +353,7 @@ class Maker:
     def comparison(self, left, right):
         """Of a column of one item with a column of another, or with a value."""
         numbers = self.numbers
-        is_hashed = self.kind == "hashed"
+        is_hashed = self.is_hashed
         sign = numbers.of(("=", "=", "=", "<", ">=", "<>")) if not is_hashed or numbers.chance(30) else "="
         if is_hashed and self.has_all and numbers.chance(20):
             # (of dates, texts and truth values too, where both tables have them)
@@ -337,6 +371,8 @@ class Maker:
         numbers = self.numbers
 
         def one():
+            if self.kind == "pairs" and numbers.chance(45):
+                return numbers.of(("q0.a = q1.a", "q1.a = q0.a"))
             return self.comparison(numbers.below(count), count - 1 if numbers.chance(70) else numbers.below(count))
         form = numbers.of(("one", "one", "one", "and", "and", "or", "or of ands", "not", "in", "null"))
         return {
@@ -350,7 +386,7 @@ class Maker:
         numbers, count = self.numbers, self.numbers.of((2, 2, 2, 3, 3, 4))
         tables = f"{self.any_table()} AS q0"
         for item in range(1, count):
-            table = f"{'t' if numbers.chance(50) else self.any_table()} {numbers.of(('', 'AS '))}q{item}"
+            table = f"{('u' if self.kind == 'pairs' else 't') if numbers.chance(50) else self.any_table()} {numbers.of(('', 'AS '))}q{item}"
             if numbers.chance(75) or item > 1:
                 tables += f" JOIN {table} ON {self.joining(item + 1)}"
             else:
@@ -369,7 +405,7 @@ class Maker:
 
     def explain(self):
         numbers = self.numbers
-        if self.kind in ("analyzed", "hashed", "sorted") and numbers.chance(70 if self.kind == "analyzed" else 40):
+        if (self.is_hashed or self.kind in ("analyzed", "sorted")) and numbers.chance(70 if self.kind == "analyzed" else 40):
             return f"EXPLAIN {numbers.of(('ANALYZE ', '(ANALYZE) ', '(COSTS OFF, ANALYZE, TIMING OFF) '))}"
         return f"EXPLAIN {numbers.of(('', '', '(COSTS OFF) ', '(TIMING OFF, SUMMARY OFF) '))}"
 
@@ -404,6 +440,8 @@ class Maker:
         return f"LOCK TABLE {', '.join(names)}{mode};"
 
     def setting(self):
+        if self.kind == "pairs" and self.numbers.chance(50):
+            return self.numbers.of(("SET enable_partitionwise_join = on;",) * 2 + ("SET enable_partitionwise_join = off;", "RESET enable_partitionwise_join;"))
         if self.numbers.chance(50):
             return self.numbers.of(("SET enable_hashjoin = off;", "SET enable_hashjoin = on;", "RESET enable_hashjoin;"))
         return self.numbers.of((
@@ -581,7 +619,12 @@ class Maker:
         """The blocks of a session, in the order in which it runs them."""
         numbers, found, is_open = self.numbers, [], False
         self.prepared = {}
-        if self.kind in ("generic", "analyzed", "hashed", "sorted") and numbers.chance(30 if self.kind in ("hashed", "sorted") else 80):
+        if self.kind == "pairs":
+            # (in each combination of the settings)
+            chances = (("enable_partitionwise_join = on", 85), ("enable_hashjoin = off", 25), ("enable_partition_pruning = off", 25))
+            settings = [f"SET {setting};" for setting, chance in chances if numbers.chance(chance)]
+            found += [" ".join(settings)] * bool(settings)
+        if (self.is_hashed or self.kind in ("generic", "analyzed", "sorted")) and numbers.chance(30 if self.is_hashed or self.kind == "sorted" else 80):
             found.append("SET plan_cache_mode = force_generic_plan;")
         while len(found) < wanted or is_open:
             begin = numbers.of(("BEGIN;", "BEGIN;", "BEGIN ISOLATION LEVEL REPEATABLE READ;"))

@@ -1,5 +1,5 @@
 """The text of a plan: a node a line, behind an arrow and six spaces further in at each level, its details below."""
-from pruning import TURNED, items_of
+from pruning import TURNED
 
 
 class Naming:
@@ -69,19 +69,19 @@ def counted(rows, loops=1):
 
 
 def scan_lines(plan, naming, item, leaves, depth, analyzes):
-    own = [atom for atom in plan.placed[item] if not items_of(atom) - {item}]
+    own = plan.scans(item)
     for leaf in leaves:
         told = counted(plan.counts["rows", item, leaf], plan.counts["loops", item, leaf]) if analyzes else ""
         yield from node(depth, f"Seq Scan on {leaf.name}{naming.alias(item)}", details(naming, "Filter", own), told)
 
 
-def item_lines(plan, naming, item, depth, analyzes):
-    leaves = plan.leaves[item]
-    told = counted(plan.counts["rows", item], plan.counts["loops", item]) if analyzes else ""
+def item_lines(plan, naming, item, depth, analyzes, part=None):
+    leaves = plan.in_part(item, part, plan.leaves)
+    told = counted(plan.counts["rows", item, part], plan.counts["loops", item, part]) if analyzes else ""
 
     def scans(depth):
         return scan_lines(plan, naming, item, leaves, depth, analyzes)
-    planned = len(plan.planned[item])
+    planned = len(plan.in_part(item, part, plan.planned))
     if planned == 1 and not (plan.prunes_beside(item) or plan.prunes and plan.has_params(item)):
         return list(scans(depth))
     removed = [f"Subplans Removed: {planned - len(leaves)}"] if planned > len(leaves) else []
@@ -100,16 +100,29 @@ def ordered_lines(plan, naming, parts, keys, depth, analyzes):
     return lines
 
 
-def joined(plan, naming, count, depth, analyzes):
-    """The first items, joined from the left."""
+def pair_lines(plan, naming, depth, analyzes):
+    """The first two items, joined partition by partition."""
+    told = counted(sum(plan.counts["joined", 1, part] for part in plan.parts)) if analyzes else ""
+    if not plan.parts:
+        return node(depth, "Result", ["One-Time Filter: false"], told)
+    if len(plan.parts) == 1:
+        return joined(plan, naming, 2, depth, analyzes, plan.parts[0])
+    lines = node(depth, "Append", (), told)
+    return lines + [line for part in plan.parts for line in joined(plan, naming, 2, depth + 1, analyzes, part)]
+
+
+def joined(plan, naming, count, depth, analyzes, part=None):
+    """The first items, joined from the left; over one partition of each where there is a place of such."""
     last = count - 1
+    if last == 1 and part is None and plan.parts is not None:
+        return pair_lines(plan, naming, depth, analyzes)
     if last == 0:
-        return item_lines(plan, naming, 0, depth, analyzes)
-    told = counted(plan.counts["joined", last]) if analyzes else ""
+        return item_lines(plan, naming, 0, depth, analyzes, part)
+    told = counted(plan.counts["joined", last, part]) if analyzes else ""
     found_by = plan.hash_conds(last)
     asked = details(naming, "Hash Cond", found_by) + details(naming, "Join Filter", [atom for atom in plan.joins(last) if atom not in found_by])
     lines = node(depth, "Hash Join" if found_by else "Nested Loop", asked, told)
-    return lines + joined(plan, naming, last, depth + 1, analyzes) + item_lines(plan, naming, last, depth + 1, analyzes)
+    return lines + joined(plan, naming, last, depth + 1, analyzes, part) + item_lines(plan, naming, last, depth + 1, analyzes, part)
 
 
 def plan_lines(plan, naming, keys, parts, is_cut, analyzes=False):
