@@ -389,6 +389,7 @@ attach_can_be_met = (
   is_legal,
   are_permitted,
   refl,
+  λ same. omega (arith, same),
   (inl refl, refl, λ u end. absurd end),
   (2, inl (refl, refl), refl),
   refl,

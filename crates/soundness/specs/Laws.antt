@@ -1,11 +1,11 @@
 -- What holds of every legal history.
-use Rattle.std.specs.Prelude.{◌≡◌, ◌<◌, ◌≤◌, ℕ, true, false, List, [], ◌∷◌, ◌⊎◌, Some, None, Ok, All, Contains, length}
+use Rattle.std.specs.Prelude.{◌≡◌, ◌≢◌, ◌<◌, ◌≤◌, ℕ, true, false, List, [], ◌∷◌, ◌⊎◌, Some, None, Ok, All, Contains, length}
 use Rattle.pg_values.specs.declared.value.Value.{Value}
 use Rattle.pg_values.specs.declared.ids.LeafId.{LeafId}
 use Rattle.history.specs.declared.transaction.Fate.TheVariants.{Running}
 use Rattle.history.specs.declared.version.Version.{Version}
 use Rattle.history.specs.declared.catalogue.Entry.{Entry}
-use Rattle.history.specs.Transactions.{TxEvents, open_of, fate, IsRunning}
+use Rattle.history.specs.Transactions.{TxEvents, open_of, session_of, fate, IsRunning}
 use Rattle.history.specs.Snapshots.{TakenSnapshot, SnapshotHeld, held_by}
 use Rattle.history.specs.Catalogue.{EntryAdded, CheckKept}
 use Rattle.history.specs.History.{Event, History, CatalogueChange, tx_events, snapshot_events, row_events, catalogue_events, versions, fresh, seen}
@@ -144,7 +144,7 @@ ConditionsCanBeMet = (h : History) × (session table x : ℕ) × (s : TakenSnaps
 -- before the mark
 abbrev pub AttachCanBeMet : Type 0
 AttachCanBeMet = (h : History) × (e g : Entry) × (reader : ℕ) × (old : TakenSnapshot) × (v : Version) × IsLegal (CatalogueChange (EntryAdded e) ∷ h) × ArePermitted (CatalogueChange (EntryAdded e) ∷ h)
-    × (held_by (snapshot_events h) reader ≡ Some old) × Has h e.by.number g × HasPending h e.by.number g × (g.parent.number ≡ e.parent.number) × (sees_mark h old g ≡ false)
+    × (held_by (snapshot_events h) reader ≡ Some old) × (session_of (tx_events h) e.by.number ≢ reader) × Has h e.by.number g × HasPending h e.by.number g × (g.parent.number ≡ e.parent.number) × (sees_mark h old g ≡ false)
     × IsVersion (row_events h) v × HasLeaf (catalogue_events h) e.child.number v.leaf × Judges h e.by.number v
 
 -- and a scan can be left out, of a table that has a row
