@@ -1,6 +1,7 @@
 -- What a loop over the children of a level puts behind its lists.
-use Rattle.std.proofs.Common.{◌≡◌, ℕ, zero, suc, ◌+◌, ◌<◌, ◌≤◌, arith, Bool, true, false, if◌then◌else◌, List, [], ◌∷◌, ◌++◌, length, map, drop, get_or, refl, sym, ap, subst, ◌∙◌, append_assoc, append-nil}
+use Rattle.std.proofs.Common.{◌≡◌, ℕ, zero, suc, ◌+◌, ◌-◌, ◌<◌, ◌≤◌, arith, inl, inr, Bool, true, false, if◌then◌else◌, List, [], ◌∷◌, ◌++◌, length, map, drop, get_or, refl, sym, ap, subst, ◌∙◌, append_assoc, append-nil}
 use Rattle.std.specs.List.{All, slice_index_or}
+use Rattle.std.proofs.lemmas.Bool.{cases_lt}
 use Rattle.std.proofs.lemmas.List.{drop_more, length-append}
 use Rattle.std.proofs.Math.ListN.{drop_of_length-le}
 use Rattle.pg_values.specs.declared.ids.TableNo.{TableNo}
@@ -15,7 +16,7 @@ use Rattle.row_router.specs.Seen.{seen, items_of}
 use Rattle.row_router.proofs.Seen.{seen_level}
 use Rattle.row_router.specs.Trees.{TableTree, LeafTable, LevelTable, Trees, trees_of, count, height, heights}
 use Rattle.cond_logic.specs.Tables.{Leaf}
-use Rattle.prune_steps.specs.Bits.{bit}
+use Rattle.prune_steps.specs.Bits.{bit, NoneIn, FirstFrom}
 use Rattle.plan_tree.specs.Kept.{Keeps, AreKept, led, leaves_below, leaves_among, kept_tables, tables_among, node_of}
 use Rattle.plan_tree.specs.Prunable.{CanPrune, AllCanPrune}
 
@@ -82,11 +83,10 @@ child_low (x ∷ items) zero child lt is = let w = ap (λ (y : Tree). height (se
 child_low (x ∷ items) (suc k) child lt is = let w = child_low items k child (omega arith) is in omega (arith, w)
 
 -- the tree of a child is lower
-pub child_lower : (t : Tree) (level : Level) (bounds : List Bound) (children : TreeList) (items : List Tree) (k : ℕ) (child : Tree) → t.shape ≡ ShapeLevel level bounds children → items ≡ items_of children → k < length items → child ≡ get_or items k child → height (seen child) < height (seen t)
-child_lower t level bounds children items k child is are lt at =
-    let low = child_low items k child lt at in
-    let same : heights (kids items) ≡ heights (kids (items_of children)) = ap (λ xs. heights (kids xs)) are in
-    rw (seen_level t level bounds children is) (omega (arith, low, same))
+pub child_lower : (t : Tree) (level : Level) (bounds : List Bound) (children : TreeList) (k : ℕ) (child : Tree) → t.shape ≡ ShapeLevel level bounds children → k < length (items_of children) → child ≡ get_or (items_of children) k child → height (seen child) < height (seen t)
+child_lower t level bounds children k child is lt at =
+    let low = child_low (items_of children) k child lt at in
+    rw (seen_level t level bounds children is) (omega (arith, low))
 
 -- ---- a level
 
@@ -107,22 +107,21 @@ pub record Going (keeps : Keeps) (tree : TableTree) (items : List Tree) (set : L
   pub paired : length (bounds_of tree) ≡ length items
   pub kept : AreKept set (test_of keeps tree) (bounds_of tree)
 
-pub begins : (keeps : Keeps) (t : Tree) (level : Level) (bounds : List Bound) (children : TreeList) (items : List Tree) (kept : List ℕ) (tables : List TableNo) (leaves : List Leaf) → t.shape ≡ ShapeLevel level bounds children → items ≡ items_of children
-    → CanPrune (seen t) → AreKept kept (keeps level bounds) bounds → Going keeps (seen t) items kept 0 tables tables leaves leaves
-begins keeps t level bounds children items kept tables leaves is are can agree =
+pub begins : (keeps : Keeps) (t : Tree) (level : Level) (bounds : List Bound) (children : TreeList) (kept : List ℕ) (tables : List TableNo) (leaves : List Leaf) → t.shape ≡ ShapeLevel level bounds children
+    → CanPrune (seen t) → AreKept kept (keeps level bounds) bounds → Going keeps (seen t) (items_of children) kept 0 tables tables leaves leaves
+begins keeps t level bounds children kept tables leaves is can agree =
     let s = seen_level t level bounds children is in
     let whole : CanPrune (LevelTable t.node level bounds (kids (items_of children))) = subst CanPrune s can in
     let count_is = count_kids (items_of children) in
     let pairs : length bounds ≡ count (kids (items_of children)) = whole.0 in
-    subst (λ xs. Going keeps (seen t) xs kept 0 tables tables leaves leaves) (sym are)
-    (subst (λ x. Going keeps x (items_of children) kept 0 tables tables leaves leaves) (sym s) (record {
+    subst (λ x. Going keeps x (items_of children) kept 0 tables tables leaves leaves) (sym s) (record {
       tables = refl;
       leaves = refl;
       can = whole.3;
       few = whole.1;
       paired = pairs ∙ count_is;
       kept = agree;
-    }))
+    })
 
 -- the level can be asked
 pub can_ask : (t : Tree) (level : Level) (bounds : List Bound) (children : TreeList) → t.shape ≡ ShapeLevel level bounds children → CanPrune (seen t) → (length bounds ≤ 1024) × All (IsOfLevel level) bounds
@@ -134,10 +133,7 @@ module _ (keeps : Keeps) (tree : TableTree) (items : List Tree) (kept : List ℕ
   in_bounds : k < length (bounds_of tree)
   in_bounds = let same = going.paired in omega (arith, same, lt)
 
-  pub below_most : k < 1024
-  below_most = let few = going.few in let low = in_bounds in omega (arith, few, low)
-
-  pub goes_on : (now_tables : List TableNo) (now_leaves : List Leaf) → bit kept k ≡ true → now_tables ≡ tables ++ led (leaves_below keeps (seen child)) (node_of (seen child)).table (kept_tables keeps (seen child)) → now_leaves ≡ leaves ++ leaves_below keeps (seen child)
+  goes_on : (now_tables : List TableNo) (now_leaves : List Leaf) → bit kept k ≡ true → now_tables ≡ tables ++ led (leaves_below keeps (seen child)) (node_of (seen child)).table (kept_tables keeps (seen child)) → now_leaves ≡ leaves ++ leaves_below keeps (seen child)
       → Going keeps tree items kept (k + 1) now_tables tables_before now_leaves leaves_before
   goes_on now_tables now_leaves in_it more more_leaves =
       let yes = sym (going.kept k in_bounds) ∙ in_it in
@@ -150,7 +146,7 @@ module _ (keeps : Keeps) (tree : TableTree) (items : List Tree) (kept : List ℕ
         kept = going.kept;
       }
 
-  pub passes_over : bit kept k ≡ false → Going keeps tree items kept (k + 1) tables tables_before leaves leaves_before
+  passes_over : bit kept k ≡ false → Going keeps tree items kept (k + 1) tables tables_before leaves leaves_before
   passes_over out =
       let no = sym (going.kept k in_bounds) ∙ out in
       record {
@@ -162,17 +158,65 @@ module _ (keeps : Keeps) (tree : TableTree) (items : List Tree) (kept : List ℕ
         kept = going.kept;
       }
 
-  pub child_prunes : CanPrune (seen child)
+  child_prunes : CanPrune (seen child)
   child_prunes = child_can keeps (test_of keeps tree) (bounds_of tree) items k child in_bounds lt is going.can
 
+child_there : (items : List Tree) (k : ℕ) → k < length items → (child : Tree) × (child ≡ get_or items k child)
+child_there [] k lt = absurd (omega (arith, lt))
+child_there (x ∷ items) zero lt = (x, refl)
+child_there (x ∷ items) (suc k) lt = let rest = child_there items k (omega (arith, lt)) in (rest.0, rest.1)
+
 -- behind the last child
-pub ends : (keeps : Keeps) (tree : TableTree) (items : List Tree) (kept : List ℕ) (k : ℕ) (tables tables_before : List TableNo) (leaves leaves_before : List Leaf) → length items ≤ k → Going keeps tree items kept k tables tables_before leaves leaves_before
+ends : (keeps : Keeps) (tree : TableTree) (items : List Tree) (kept : List ℕ) (k : ℕ) (tables tables_before : List TableNo) (leaves leaves_before : List Leaf) → length items ≤ k → Going keeps tree items kept k tables tables_before leaves leaves_before
     → (tables ≡ tables_before ++ kept_tables keeps tree) × (leaves ≡ leaves_before ++ leaves_below keeps tree)
 ends keeps tree items kept k tables tables_before leaves leaves_before past going =
     let none : drop k items ≡ [] = drop_of_length-le items past in
     let t = subst (λ xs. tables ++ tables_among keeps (test_of keeps tree) (drop k (bounds_of tree)) (kids xs) ≡ tables_before ++ kept_tables keeps tree) none going.tables in
     let l = subst (λ xs. leaves ++ leaves_among keeps (test_of keeps tree) (drop k (bounds_of tree)) (kids xs) ≡ leaves_before ++ leaves_below keeps tree) none going.leaves in
     (sym (append-nil tables) ∙ t, sym (append-nil leaves) ∙ l)
+
+module _ (keeps : Keeps) (tree : TableTree) (items : List Tree) (kept : List ℕ) (tables tables_before : List TableNo) (leaves leaves_before : List Leaf) where
+  -- children of which none is kept are passed over
+  passes_all : (n from : ℕ) → from + n ≤ length items → NoneIn kept from (from + n) → Going keeps tree items kept from tables tables_before leaves leaves_before → Going keeps tree items kept (from + n) tables tables_before leaves leaves_before
+  passes_all zero from le none going = subst (λ k. Going keeps tree items kept k tables tables_before leaves leaves_before) (omega arith) going
+  passes_all (suc n) from le none going =
+      let lt : from < length items = omega (arith, le) in
+      let child = child_there items from lt in
+      let next = passes_over keeps tree items kept from child.0 tables tables_before leaves leaves_before lt child.1 going (none from (omega arith) (omega arith)) in
+      subst (λ k. Going keeps tree items kept k tables tables_before leaves leaves_before) (omega arith)
+      (passes_all n (from + 1) (omega (arith, le)) (λ k low high. none k (omega (arith, low)) (omega (arith, high))) next)
+
+  module _ (from : ℕ) (going : Going keeps tree items kept from tables tables_before leaves leaves_before) where
+    passes_to : (k : ℕ) → from ≤ k → k ≤ length items → NoneIn kept from k → Going keeps tree items kept k tables tables_before leaves leaves_before
+    passes_to k low high none =
+        let same : from + (k - from) ≡ k = omega (arith, low) in
+        subst (λ j. Going keeps tree items kept j tables tables_before leaves leaves_before) same
+        (passes_all (k - from) from (omega (arith, low, high)) (λ j le lt. none j le (omega (arith, low, lt))) going)
+
+    -- the next that is kept
+    module _ (k : ℕ) (child : Tree) (first : FirstFrom kept from k) (lt : k < length items) (is : child ≡ get_or items k child) where
+      there : Going keeps tree items kept k tables tables_before leaves leaves_before
+      there = passes_to k first.behind (omega (arith, lt)) first.none_before
+
+      pub next_prunes : CanPrune (seen child)
+      next_prunes = child_prunes keeps tree items kept k child tables tables_before leaves leaves_before lt is there
+
+      pub next_pushed : (now_tables : List TableNo) (now_leaves : List Leaf) → now_tables ≡ tables ++ led (leaves_below keeps (seen child)) (node_of (seen child)).table (kept_tables keeps (seen child)) → now_leaves ≡ leaves ++ leaves_below keeps (seen child)
+          → Going keeps tree items kept (k + 1) now_tables tables_before now_leaves leaves_before
+      next_pushed now_tables now_leaves more more_leaves = goes_on keeps tree items kept k child tables tables_before leaves leaves_before lt is there now_tables now_leaves first.in_set more more_leaves
+
+    -- none is kept up to a number behind the last
+    pub none_behind : (to : ℕ) → length items ≤ to → NoneIn kept from to → (tables ≡ tables_before ++ kept_tables keeps tree) × (leaves ≡ leaves_before ++ leaves_below keeps tree)
+    none_behind to past none =
+        elim (cases_lt from (length items)) [
+          | inl low ↦
+              ends keeps tree items kept (length items) tables tables_before leaves leaves_before (omega arith)
+              (passes_to (length items) (omega (arith, low)) (omega arith) (λ k le lt. none k le (omega (arith, past, lt))))
+          | inr high ↦ ends keeps tree items kept from tables tables_before leaves leaves_before high going
+        ]
+
+    pub none_more : NoneIn kept from 1024 → (tables ≡ tables_before ++ kept_tables keeps tree) × (leaves ≡ leaves_before ++ leaves_below keeps tree)
+    none_more none = let few = going.few in let same = going.paired in none_behind 1024 (omega (arith, few, same)) none
 
 -- ---- a table that is kept
 

@@ -102,10 +102,13 @@ fn push_below<'t>(
         }
         Shape::Level(level, set, children) => {
             let kept = kept_of(alloc, prunes, item, conds, level, set)?;
-            for (k, child) in children.as_slice().iter().enumerate() {
-                if kept.keeps(k) {
-                    push_led(alloc, prunes, item, conds, child, tables, leaves)?;
+            let mut from = 0;
+            while let Some(k) = kept.first_from(from) {
+                if k >= children.len() {
+                    break;
                 }
+                push_led(alloc, prunes, item, conds, children.at(k), tables, leaves)?;
+                from = k + 1;
             }
             Ok(())
         }

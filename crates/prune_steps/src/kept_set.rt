@@ -1,5 +1,5 @@
-ghost use Rattle.std.specs.Prelude.{◌≡◌, ◌<◌, ◌≤◌, ℕ, false, true, ◌&&◌, ◌||◌, ◌==◌};
-ghost use Rattle.prune_steps.specs.Bits.{bit, in_run, AreBits};
+ghost use Rattle.std.specs.Prelude.{◌≡◌, ◌<◌, ◌≤◌, ℕ, false, true, ◌&&◌, ◌||◌, ◌==◌, MatchOption};
+ghost use Rattle.prune_steps.specs.Bits.{bit, in_run, AreBits, NoneIn, FirstFrom};
 
 use std::marker::Model;
 
@@ -40,6 +40,21 @@ impl KeptSet {
         ensures { result ≡ bit self.now child }
     {
         (self.words[child / 128] >> (child % 128)) & 1 == 1
+    }
+
+    /// The first child of the set from this number on.
+    pub fn first_from(&self, from: usize) -> Option<usize>
+        ensures { MatchOption result (NoneIn self.now from 1024) (FirstFrom self.now from) }
+    {
+        let mut at = from;
+        while at < 1024 {
+            let left = self.words[at / 128] >> (at % 128);
+            if left != 0 {
+                return Some(at + left.trailing_zeros() as usize);
+            }
+            at = (at / 128 + 1) * 128;
+        }
+        None
     }
 
     /// Makes it the set of all of the first children.

@@ -1,6 +1,6 @@
-use Rattle.std.proofs.Common.{◌+◌, ◌*◌, map}
+use Rattle.std.proofs.Common.{◌+◌, ◌*◌, ◌-◌, map}
 use Rattle.cond_logic.specs.Trees.{cond_tree}
-use Rattle.row_router.specs.Seen.{seen}
+use Rattle.row_router.specs.Seen.{seen, items_of}
 use Rattle.row_router.specs.Trees.{height}
 use Rattle.plan_tree.specs.Kept.{keeps_for}
 use Rattle.plan_tree.proofs.Pushing.{Going}
@@ -13,4 +13,9 @@ abbrev pub decreases-push_led : goal.decreases-push_led
 decreases-push_led l = 2 * height (seen l.tree.now) + 1
 
 abbrev pub invariant-push_below-loop-k : goal.invariant-push_below-loop-k
-invariant-push_below-loop-k l = Going (keeps_for l.prunes l.item (map cond_tree l.conds)) (seen l.fn.tree) l.child-items l.kept l.k l.tables.items l.fn.tables.items l.leaves.items l.fn.leaves.items
+invariant-push_below-loop-k l =
+    Going (keeps_for l.prunes l.item (map cond_tree l.conds)) (seen l.fn.tree) (items_of l.children) l.kept l.from l.tables.items l.fn.tables.items l.leaves.items l.fn.leaves.items
+
+-- of 1,024 children
+abbrev pub decreases-push_below-loop-k : goal.decreases-push_below-loop-k
+decreases-push_below-loop-k l = 1024 - l.from
