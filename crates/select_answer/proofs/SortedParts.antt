@@ -1,15 +1,16 @@
 -- Parts that are sorted one by one, and stand in order.
-use Rattle.std.proofs.Common.{◌≡◌, ℕ, zero, suc, ◌+◌, ◌≤◌, ◌<◌, arith, Bool, true, false, not, List, [], ◌∷◌, ◌++◌, length, take, drop, get_or, refl, sym, ap, ◌∙◌, subst, add-one, append-nil}
+use Rattle.std.proofs.Common.{◌≡◌, ℕ, zero, suc, ◌+◌, ◌≤◌, ◌<◌, ◌==◌, arith, Bool, true, false, not, List, [], ◌∷◌, ◌++◌, length, take, drop, get_or, refl, sym, ap, ◌∙◌, subst, add-one, append-nil}
 use Rattle.std.specs.List.{filter}
 use Rattle.std.specs.Cmp.{IsStrictWeakOrder}
 use Rattle.std.specs.List.Sorted.{IsSortedBy, IsStableBy, ties}
+use Rattle.std.proofs.lemmas.Bool.Decides.{nat_tests}
 use Rattle.std.proofs.lemmas.List.{length-take-le, take-append-drop, take_at, drop_at, take_all}
 use Rattle.std.proofs.lemmas.List.Elements.{filter-append}
 use Rattle.std.proofs.lemmas.List.Sorted.{sorted_far}
 use Rattle.std.proofs.lemmas.Slice.{take-put_mid}
 use borrow.Rule.Slice.PartMut.{put_mid}
 use Rattle.cond_logic.specs.declared.select.SortKey.{SortKey}
-use Rattle.part_bounds.specs.Sorted.{sorted}
+use Rattle.part_bounds.specs.Sorted.{insert, sorted}
 use Rattle.part_bounds.proofs.Stable.{NoneLess, Rising, rising, stably_sorted}
 use Rattle.select_answer.specs.Keys.{row_less, before_all, stands_right}
 use Rattle.select_answer.specs.declared.keyed_row.KeyedRow.{KeyedRow}
@@ -64,6 +65,16 @@ module _ {X : Type 0} (lt : X → X → Bool) (o : IsStrictWeakOrder lt) where
 
   pub front_sorted : (xs ys : List X) (n : ℕ) → n ≡ length ys → IsSortedBy lt (take n ys) → IsStableBy lt xs ys → ys ≡ sorted lt xs
   front_sorted xs ys n is up stable = all_sorted xs ys (subst (IsSortedBy lt) (take_all n ys (omega (arith, is))) up) stable
+
+-- by no keys all rows stay in order
+none_moved : (rows : List KeyedRow) → sorted (row_less []) rows ≡ rows
+none_moved [] = refl
+none_moved (r ∷ []) = refl
+none_moved (r ∷ q ∷ rows) = ap (insert (row_less []) r) (none_moved (q ∷ rows))
+
+pub unsorted : (ks : List SortKey) (n : ℕ) (rows : List KeyedRow) → n ≡ length ks → (n == 0) ≡ true → rows ≡ sorted (row_less ks) rows
+unsorted [] n rows size none = sym (none_moved rows)
+unsorted (k ∷ ks) n rows size none = let left : n ≡ 0 = grind (arith, nat_tests, none) in absurd (omega (arith, size, left))
 
 -- a part of rows that stands right behind those before it
 module _ (ks : List SortKey) where

@@ -1,4 +1,4 @@
-ghost use Rattle.std.specs.Prelude.{◌≡◌, ◌≤◌, ℕ, ◌+◌, IfOk, OnOk, length, slice_index_or, take, true};
+ghost use Rattle.std.specs.Prelude.{◌≡◌, ◌≤◌, IfOk, OnOk, length, slice_index_or, take, true};
 ghost use Rattle.std.specs.List.Sorted.{IsSortedBy, IsStableBy};
 ghost use Rattle.pg_values.specs.declared.value.Value.TheVariants.{Null};
 ghost use Rattle.cond_logic.specs.Truths as truths;
@@ -139,7 +139,7 @@ fn sort_part(
 }
 
 /// Sorts the rows, of which each part ends at one of these places. The parts are sorted one by one: as they follow on one
-/// another that is all, and where one does not, all rows are sorted. Rows that tie stay in order.
+/// another that is all, and where one does not, all rows are sorted. Rows that tie stay in order, and so do all without ORDER BY.
 pub(crate) fn sort_parts(
     alloc: Global,
     order: &[SortKey],
@@ -148,6 +148,9 @@ pub(crate) fn sort_parts(
 ) -> Result<(), NoMemory>
     ensures { OnOk result (rows.new ≡ sorted (row_less order.now) rows.old) }
 {
+    if order.is_empty() {
+        return Ok(());
+    }
     let mut start: usize = 0;
     let mut in_order = true;
     for place in ends {

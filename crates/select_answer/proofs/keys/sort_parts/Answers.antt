@@ -1,8 +1,11 @@
-use Rattle.std.proofs.Common.{arith, length}
+use Rattle.std.proofs.Common.{◌∙◌, sym, arith, length, refl}
 use Rattle.select_answer.specs.Keys.{row_less}
-use Rattle.select_answer.proofs.SortedParts.{all_sorted, front_sorted, stable_again}
+use Rattle.select_answer.proofs.SortedParts.{all_sorted, front_sorted, stable_again, unsorted}
 use Rattle.select_answer.proofs.Total.{row_weak}
 use Rattle.select_answer.proofs.keys.sort_parts.Goals as goal
+
+pub returns-then-is_empty : goal.returns-then-is_empty
+returns-then-is_empty c = unsorted c.args.order.now (length c.args.order.now) c.args.rows.now refl (sym c.is_empty.ensures ∙ c.if-is_empty.true)
 
 pub loop-place-preserved : goal.loop-place-preserved
 loop-place-preserved c = record {
