@@ -23,7 +23,8 @@ use Rattle.row_router.specs.declared.path.PathTest.TheVariants.{Bounds, Checks}
 use Rattle.row_router.specs.Paths.{refused}
 use Rattle.tx_table.specs.Stands.{TableStands}
 use Rattle.part_catalog.specs.Found.{made_at}
-use Rattle.part_catalog.specs.Full.{EntryRefused, MayAdd, partitions, levels}
+use Rattle.part_catalog.specs.declared.TheConstants.{ENTRY_LIMIT}
+use Rattle.part_catalog.specs.Full.{EntryRefused, MayAdd, partitions, added, levels}
 use Rattle.part_catalog.specs.Kept.{KeptCatalogue, next_entry}
 use Rattle.part_catalog.specs.Stands.{CatalogueStands}
 use Rattle.part_ddl.specs.Below.{default_of, tables_from}
@@ -160,7 +161,7 @@ module _ (laws : AttachLaws) (stores : Stores) (caller : Caller) (p t : ℕ) (b 
         parent_there = laws.named h caller.session (tx_in h caller.session) p all.guarded.name legal ours (all.guarded.named h stands.all.txs stands.all.catalog);
         child_there = laws.named h caller.session (tx_in h caller.session) t all.locked.name legal ours (all.locked.named h stands.all.txs stands.all.catalog);
         guarded = inl guarded;
-        room = record { partitions = law.partitions; levels = law.levels };
+        room = record { partitions = law.partitions; added = law.added; levels = law.levels };
         together = λ x there. All-contains (λ (y : Entry). CanStandTogether y (new_entry caller p t b h)) (entries_present h caller.session) x law.together there;
         no_pending = λ x there of pending. All-contains (IsNoDefaultBeside h caller.session (new_entry caller p t b h)) (entries_present h caller.session) x law.no_pending there of pending;
         default_owned = λ d x is listed. inl ((apart d is).owned x listed);
@@ -206,9 +207,10 @@ module _ (laws : AttachLaws) (stores : Stores) (caller : Caller) (p t : TableNo)
       }
 
   -- there is room for it
-  refused_none : (h : History) (s : ℕ) (which : Which) → partitions h s p.number < 1024 → levels h s p.number t.number ≤ 8 → EntryRefused h s p.number t.number (Full which) → ⊥
-  refused_none h s which few low (inl r) = omega (arith, r.1, few)
-  refused_none h s which few low (inr r) = omega (arith, r.2, low)
+  refused_none : (h : History) (s : ℕ) (which : Which) → partitions h s p.number < 1024 → added h < ENTRY_LIMIT → levels h s p.number t.number ≤ 8 → EntryRefused h s p.number t.number (Full which) → ⊥
+  refused_none h s which few fit low (inl (is, inl many)) = omega (arith, many, few)
+  refused_none h s which few fit low (inl (is, inr full)) = omega (arith, full, fit)
+  refused_none h s which few fit low (inr r) = omega (arith, r.2, low)
 
   pub never_full : (which : Which) → ((h : History) → TableStands stores.txs h → CatalogueStands stores.catalog h → EntryRefused h (session_of (tx_events h) by.number) p.number t.number (Full which)) → ⊥
   never_full which refused =
@@ -216,7 +218,7 @@ module _ (laws : AttachLaws) (stores : Stores) (caller : Caller) (p t : TableNo)
       let stands = may.sound.1 in
       let can = place h stands.all.txs stands.all.catalog in
       let room = laws.passed h caller.session _ (new_entry caller p.number t.number b h) (catalogue_sound_of h (legal_of h stands.good)) can.takes can.place in
-      refused_none h caller.session which room.partitions room.levels (subst (λ (n : ℕ). EntryRefused h n p.number t.number (Full which)) (owner h stands.all.txs) (refused h stands.all.txs stands.all.catalog))
+      refused_none h caller.session which room.partitions room.added room.levels (subst (λ (n : ℕ). EntryRefused h n p.number t.number (Full which)) (owner h stands.all.txs) (refused h stands.all.txs stands.all.catalog))
 
   -- what the call says of the catalogue
   abbrev Adds : KeptCatalogue → Type 0

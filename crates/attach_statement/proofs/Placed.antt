@@ -1,5 +1,5 @@
 -- The place of a table that is attached.
-use Rattle.std.proofs.Common.{◌≡◌, ℕ, zero, suc, ◌+◌, ◌≤◌, ◌==◌, ◌||◌, not, Bool, true, false, List, [], ◌∷◌, ◌++◌, inl, inr, refl, sym, ap, subst, ◌∙◌, arith, Option, Some, None, Result, Ok, Err, length}
+use Rattle.std.proofs.Common.{◌≡◌, ℕ, zero, suc, ◌+◌, ◌≤◌, ◌==◌, ◌&&◌, ◌||◌, not, Bool, true, false, List, [], ◌∷◌, ◌++◌, inl, inr, refl, sym, ap, subst, ◌∙◌, arith, Option, Some, None, Result, Ok, Err, length}
 use Rattle.std.specs.Prelude.{is_none, nat_le, nat_lt}
 use Rattle.std.specs.List.{Contains, list_any}
 use Rattle.std.proofs.lemmas.Bool.Decides.{nat_tests}
@@ -25,7 +25,8 @@ use Rattle.sql_ast.specs.Commands.{Bound}
 use Rattle.table_binder.specs.Bounds.{bound_for}
 use Rattle.part_catalog.specs.Answers.{parent_told}
 use Rattle.part_catalog.specs.Found.{made_at}
-use Rattle.part_catalog.specs.Full.{tables_up, tables_above}
+use Rattle.part_catalog.specs.declared.TheConstants.{ENTRY_LIMIT}
+use Rattle.part_catalog.specs.Full.{tables_up, tables_above, added}
 use Rattle.part_ddl.specs.Below.{tables_from}
 use Rattle.part_ddl.specs.Placing.{level_at, partitions_of, pending_name, names_below, bounds_below, bound_faults, place_faults}
 use Rattle.expression_binder.specs.Firsts.{IsAnswerBy}
@@ -132,7 +133,7 @@ module _ (h : History) (s p : ℕ) (b : MeantBound) (n : ℕ) where
   first_part = bound_faults (made_at h p).name (pending_name h s p) (names_below h s p) (bounds_below h s p) b
 
   abbrev second_part : List Fault
-  second_part = unless (nat_lt (length (partitions_of h s p)) 1024) (too_many Partitions)
+  second_part = unless (nat_lt (length (partitions_of h s p)) 1024 && nat_lt (added h) ENTRY_LIMIT) (too_many Partitions)
 
   pub wider_refused : (r : Refusal) → 1 ≤ n → IsAnswer {T = Unit {0}} (Err r) (or_first {T = Unit {0}} (place_faults h s p b 1) tt) → IsAnswer {T = Unit {0}} (Err r) (or_first {T = Unit {0}} (place_faults h s p b n) tt)
   wider_refused (Sql f) high e = wider_fault first_part second_part (tables_above (above (entries_present h s)) p) n (too_many Levels) f high e

@@ -6,6 +6,7 @@ ghost use Rattle.history.specs.History.{History, CatalogueChange, tx_events};
 ghost use Rattle.history.specs.Places.{IsCatalogueSound, KeysLieIn};
 ghost use Rattle.history.specs.Transactions.{session_of};
 ghost use Rattle.tx_table.specs.Stands.{TableStands};
+ghost use Rattle.part_catalog.specs.declared.TheConstants.{ENTRY_LIMIT};
 ghost use Rattle.part_catalog.specs.Kept.{with_table, with_entry, next_entry, fresh, no_entry, IsBetween};
 ghost use Rattle.part_catalog.specs.Stands.{CatalogueStands};
 ghost use Rattle.part_catalog.specs.Full.{TableRefused, EntryRefused, HasPlace, MayAdd};
@@ -15,7 +16,9 @@ use crate::below::Below;
 use crate::keep::forget;
 use crate::room::{count_shown, levels_up, place_in};
 use crate::stored::{StoredEntry, StoredTable};
-use crate::{Catalog, CatalogRefused, LEVEL_LIMIT, NewTable, PARTITION_LIMIT, TABLE_LIMIT, see};
+use crate::{
+    Catalog, CatalogRefused, ENTRY_LIMIT, LEVEL_LIMIT, NewTable, PARTITION_LIMIT, TABLE_LIMIT, see,
+};
 use bound_forms::Bound;
 use history::{Check, Entry, EntryId, KeptCheck, Table, TxId};
 use pg_values::{NoMemory, TableNo, Which};
@@ -107,6 +110,11 @@ impl Catalog {
             Ok(flags) => flags,
             Err(NoMemory) => return Err(CatalogRefused::NoMemory),
         };
+        if self.added >= ENTRY_LIMIT {
+            return Err(CatalogRefused::Full {
+                which: Which::Partitions,
+            });
+        }
         if count_shown(self.below[parent.number as usize].numbers(), &flags) >= PARTITION_LIMIT {
             return Err(CatalogRefused::Full {
                 which: Which::Partitions,
@@ -138,15 +146,13 @@ impl Catalog {
     }
 
     fn push_entry(&mut self, entry: Entry) -> Result<(), NoMemory>
+        requires few { self.old.added < ENTRY_LIMIT }
         requires between { IsBetween self.old.tables (fresh entry) }
         requires beside { (k : ℕ) → k < length self.old.entries → (slice_index_or self.old.entries k no_entry).entry.parent ≡ entry.parent →
             HaveAnOrder (slice_index_or self.old.entries k no_entry).entry.bound entry.bound }
         ensures ok { OnOk result (self.new ≡ with_entry self.old entry) }
         ensures err { OnErr result (self.new ≡ self.old) }
     {
-        let Some(added) = self.added.checked_add(1) else {
-            return Err(NoMemory);
-        };
         let place = self.entries.len() as u64;
         let parent = entry.parent.number as usize;
         let at = place_in(&self.entries, self.below[parent].numbers(), &entry);
@@ -161,7 +167,7 @@ impl Catalog {
         else {
             unreachable!()
         };
-        self.added = added;
+        self.added += 1;
         forget(&mut self.trees);
         Ok(())
     }

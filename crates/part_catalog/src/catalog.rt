@@ -1,7 +1,7 @@
 ghost use Rattle.std.specs.Prelude.{◌≡◌, ◌<◌, ◌≤◌, ℕ, [], map, Some, IfOk, IfSome, length, option_map, slice_index_or};
 ghost use Rattle.history.specs.Transactions.{IsPast};
 ghost use Rattle.history.specs.Snapshots.{TakenSnapshot};
-ghost use Rattle.history.specs.Catalogue.{tables_made, checks_kept};
+ghost use Rattle.history.specs.Catalogue.{tables_made, entries_added, checks_kept};
 ghost use Rattle.history.specs.History.{History, tx_events, catalogue_events};
 ghost use Rattle.history.specs.Places.{table_at};
 ghost use Rattle.history.specs.Presence.{entries_present};
@@ -99,6 +99,14 @@ impl Catalog {
         ensures is { (h : History) → CatalogueStands self.now h → result ≡ length (checks_kept (catalogue_events h)) }
     {
         self.checks.len()
+    }
+
+    /// How many entries were added, those that are gone too.
+    pub fn entry_count(&self) -> u64
+        ensures kept { result ≡ self.now.added }
+        ensures is { (h : History) → CatalogueStands self.now h → result ≡ length (entries_added (catalogue_events h)) }
+    {
+        self.added
     }
 
     /// The tree of a table that a statement of the session reads under its snapshot: the table with

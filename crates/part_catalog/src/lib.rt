@@ -43,5 +43,8 @@ pub const TABLE_LIMIT: usize = 4096;
 /// How many partitions a table has at most.
 pub const PARTITION_LIMIT: usize = 1024;
 
+/// How many partitions a run attaches at most, those that are gone too: each has a number of 64 bits.
+pub const ENTRY_LIMIT: u64 = 18_446_744_073_709_551_615;
+
 /// How many tables stand on a path at most.
 pub const LEVEL_LIMIT: usize = 8;

@@ -18,6 +18,7 @@ use Rattle.row_router.proofs.Order.{all_children, all_kept, under_children}
 use Rattle.row_router.proofs.Suited.{all_suit}
 use Rattle.part_catalog.specs.Answers.{AreTogether}
 use Rattle.part_catalog.specs.Found.{made_at}
+use Rattle.part_catalog.specs.Full.{added}
 use Rattle.part_catalog.specs.Kept.{KeptCatalogue, no_entry}
 use Rattle.part_catalog.specs.Stands.{CatalogueStands}
 use Rattle.part_ddl.specs.Placing.{names_below, bounds_below, pending_name, partitions_of, levels_with, bound_faults, room_faults, place_faults, AreOfOneLevel}
@@ -38,12 +39,12 @@ same_faults h s p parent pending names bs b w =
     ∙ ap (λ x. bound_faults (made_at h p).name (pending_name h s p) (names_below h s p) x b) w.bounds_are
 
 pub place_same : (h : History) (s p height count levels : ℕ) (parent : List ℕ) (pending : Option (List ℕ)) (names : List (List ℕ)) (bs : List Bound) (b : Bound) → SameWords h s p parent pending names bs → count ≡ length (partitions_of h s p) → levels ≡ levels_with h s p height
-    → bound_faults parent pending names bs b ++ room_faults count levels ≡ place_faults h s p b height
+    → bound_faults parent pending names bs b ++ room_faults count (added h) levels ≡ place_faults h s p b height
 place_same h s p height count levels parent pending names bs b w many deep =
     let own = bound_faults (made_at h p).name (pending_name h s p) (names_below h s p) (bounds_below h s p) b in
-    ap (λ fs. fs ++ room_faults count levels) (same_faults h s p parent pending names bs b w)
-    ∙ ap (λ n. own ++ room_faults n levels) many
-    ∙ ap (λ n. own ++ room_faults (length (partitions_of h s p)) n) deep
+    ap (λ fs. fs ++ room_faults count (added h) levels) (same_faults h s p parent pending names bs b w)
+    ∙ ap (λ n. own ++ room_faults n (added h) levels) many
+    ∙ ap (λ n. own ++ room_faults (length (partitions_of h s p)) (added h) n) deep
 
 -- ---- the entries that are lent
 

@@ -1,5 +1,5 @@
 -- Where nothing stands against a further partition.
-use Rattle.std.proofs.Common.{◌≡◌, ℕ, suc, not, if◌then◌else◌, ◌+◌, ◌<◌, ◌≤◌, ◌==◌, ◌++◌, arith, refl, sym, subst, ◌∙◌, Bool, true, false, List, [], ◌∷◌, Option, Some, None, filter, map, length, get_or, inl, inr}
+use Rattle.std.proofs.Common.{◌≡◌, ℕ, suc, not, if◌then◌else◌, ◌+◌, ◌<◌, ◌≤◌, ◌==◌, ◌&&◌, ◌++◌, arith, refl, sym, subst, ◌∙◌, Bool, true, false, List, [], ◌∷◌, Option, Some, None, filter, map, length, get_or, inl, inr}
 use Rattle.std.specs.Prelude.{nat_lt, nat_le}
 use Rattle.std.specs.List.{All, find, position, position_or_len}
 use Rattle.std.specs.Option.{option_map}
@@ -31,7 +31,9 @@ use Rattle.row_router.specs.Histories.{placed, all_placed, children, bound_of, i
 use Rattle.row_router.proofs.Order.{all_children, all_kept, children_of_part, under_children}
 use Rattle.row_router.proofs.Suited.{all_suit}
 use Rattle.part_catalog.specs.Answers.{is_pending_below, pending_entry}
+use Rattle.part_catalog.specs.declared.TheConstants.{ENTRY_LIMIT}
 use Rattle.part_catalog.specs.Found.{made_at}
+use Rattle.part_catalog.specs.Full.{added}
 use Rattle.part_ddl.specs.Placing.{child_name, partitions_of, names_below, bounds_below, fault_at, pending_faults, default_faults, modulus_faults, overlap_faults, bound_faults, room_faults, pending_name, levels_with, place_faults}
 use Rattle.part_ddl.proofs.Suiting.{bad_none}
 use Rattle.part_ddl.specs.Laws.{PassedHavePlaces}
@@ -195,21 +197,23 @@ not_beside h s t Default none is =
 -- the room that is left
 pub record HasRoom (h : History) (s t height : ℕ) : Type 0 where
   pub partitions : length (partitions_of h s t) < 1024
+  pub added : added h < ENTRY_LIMIT
   pub levels : levels_with h s t height ≤ 8
 
 pub room_of : (h : History) (s t height : ℕ) (b : Bound) → place_faults h s t b height ≡ [] → HasRoom h s t height
 room_of h s t height b none =
-    let whole = both_empty (bound_faults (made_at h t).name (pending_name h s t) (names_below h s t) (bounds_below h s t) b) (room_faults (length (partitions_of h s t)) (levels_with h s t height)) none in
-    let rooms = both_empty (unless (nat_lt (length (partitions_of h s t)) 1024) (too_many Partitions)) (unless (nat_le (levels_with h s t height) 8) (too_many Levels)) whole.1 in
-    let few : nat_lt (length (partitions_of h s t)) 1024 ≡ true = unless_none (nat_lt (length (partitions_of h s t)) 1024) (too_many Partitions) rooms.0 in
+    let whole = both_empty (bound_faults (made_at h t).name (pending_name h s t) (names_below h s t) (bounds_below h s t) b) (room_faults (length (partitions_of h s t)) (added h) (levels_with h s t height)) none in
+    let fits = nat_lt (length (partitions_of h s t)) 1024 && nat_lt (added h) ENTRY_LIMIT in
+    let rooms = both_empty (unless fits (too_many Partitions)) (unless (nat_le (levels_with h s t height) 8) (too_many Levels)) whole.1 in
+    let fit : fits ≡ true = unless_none fits (too_many Partitions) rooms.0 in
     let low : nat_le (levels_with h s t height) 8 ≡ true = unless_none (nat_le (levels_with h s t height) 8) (too_many Levels) rooms.1 in
-    record { partitions = grind (arith, nat_tests, few); levels = grind (arith, nat_tests, low) }
+    record { partitions = grind (arith, nat_tests, fit); added = grind (arith, nat_tests, fit); levels = grind (arith, nat_tests, low) }
 
 pub passed_have_places : PassedHavePlaces
 passed_have_places h s height e sound takes none =
     let t = e.parent.number in
     let b = e.bound in
-    let room = room_faults (length (partitions_of h s t)) (levels_with h s t height) in
+    let room = room_faults (length (partitions_of h s t)) (added h) (levels_with h s t height) in
     let overlap = overlap_faults (names_below h s t) (bounds_below h s t) b in
     let modulus = modulus_faults (bounds_below h s t) b in
     let default = default_faults (made_at h t).name (pending_name h s t) (names_below h s t) (bounds_below h s t) b in
@@ -231,5 +235,6 @@ passed_have_places h s height e sound takes none =
         | inr n ↦ n
       ];
       partitions = left.partitions;
+      added = left.added;
       levels = left.levels;
     }

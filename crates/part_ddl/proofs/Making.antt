@@ -35,7 +35,8 @@ use Rattle.row_store.specs.Kept.{KeptRows}
 use Rattle.row_store.specs.Stands.{StoreStands}
 use Rattle.part_catalog.specs.Answers.{AreTogether, child_told, pending_entry, is_pending_below}
 use Rattle.part_catalog.specs.Found.{made_at, table_number}
-use Rattle.part_catalog.specs.Full.{partitions, tables_above, levels, EntryRefused, MayAdd}
+use Rattle.part_catalog.specs.declared.TheConstants.{ENTRY_LIMIT}
+use Rattle.part_catalog.specs.Full.{partitions, added, tables_above, levels, EntryRefused, MayAdd}
 use Rattle.part_catalog.specs.declared.new_table.CatalogRefused.TheVariants.{Full}
 use Rattle.part_catalog.specs.Kept.{KeptCatalogue, table_in, next_entry}
 use Rattle.part_catalog.specs.Stands.{CatalogueStands}
@@ -81,6 +82,10 @@ tables_with h name columns (Some level) by cmd = refl
 present_with : (h : History) (name : List ℕ) (columns : List Column) (level : Option OneLevel) (by : TxId) (cmd s : ℕ) → entries_present (table_events h name columns level by cmd ++ h) s ≡ entries_present h s
 present_with h name columns None by cmd s = refl
 present_with h name columns (Some level) by cmd s = refl
+
+added_with : (h : History) (name : List ℕ) (columns : List Column) (level : Option OneLevel) (by : TxId) (cmd : ℕ) → added (table_events h name columns level by cmd ++ h) ≡ added h
+added_with h name columns None by cmd = refl
+added_with h name columns (Some level) by cmd = refl
 
 owner_with : (h : History) (name : List ℕ) (columns : List Column) (level : Option OneLevel) (by : TxId) (cmd t : ℕ) → session_of (tx_events (table_events h name columns level by cmd ++ h)) t ≡ session_of (tx_events h) t
 owner_with h name columns None by cmd t = refl
@@ -176,9 +181,10 @@ may_add table kept store kept2 store2 name columns parent b level by cmd t m is 
     }
 
 -- there is room for it
-refused_none : (h : History) (s p c : ℕ) (which : Which) → partitions h s p < 1024 → levels h s p c ≤ 8 → EntryRefused h s p c (Full which) → ⊥
-refused_none h s p c which few low (inl r) = omega (arith, r.1, few)
-refused_none h s p c which few low (inr r) = omega (arith, r.2, low)
+refused_none : (h : History) (s p c : ℕ) (which : Which) → partitions h s p < 1024 → added h < ENTRY_LIMIT → levels h s p c ≤ 8 → EntryRefused h s p c (Full which) → ⊥
+refused_none h s p c which few fit low (inl (is, inl many)) = omega (arith, many, few)
+refused_none h s p c which few fit low (inl (is, inr full)) = omega (arith, full, fit)
+refused_none h s p c which few fit low (inr r) = omega (arith, r.2, low)
 
 pub never_full : (table : KeptTable) (kept : KeptCatalogue) (store : KeptRows) (kept2 : KeptCatalogue) (store2 : KeptRows) (name : List ℕ) (columns : List Column) (parent : TableNo) (b : Bound) (level : Option OneLevel) (by : TxId) (cmd : ℕ) (t : TableNo) (which : Which) → (m : MayMake table kept store parent.number b level by) → MakesTable kept store kept2 store2 name columns level by cmd t
     → ((h : History) → TableStands table h → CatalogueStands kept2 h → EntryRefused h (session_of (tx_events h) by.number) parent.number t.number (Full which)) → ⊥
@@ -197,7 +203,8 @@ never_full table kept store kept2 store2 name columns parent b level by cmd t wh
     let up : tables_above (above (entries_present g s)) parent.number ≡ tables_above (above (entries_present m.h s)) parent.number = ap (λ (es : List Entry). tables_above (above es) parent.number) present in
     let low : levels g s parent.number t.number ≤ 8 = omega (arith, up, one, room.levels) in
     let full = subst (λ n. EntryRefused g n parent.number t.number (Full which)) (owner_with m.h name columns level by cmd by.number) (refused g (txs_with table m.h name columns level by cmd m.txs) there.catalogue) in
-    refused_none g s parent.number t.number which few low full
+    let fit : added g < ENTRY_LIMIT = omega (arith, added_with m.h name columns level by cmd, room.added) in
+    refused_none g s parent.number t.number which few fit low full
 
 -- ---- what a call answers that makes it
 

@@ -7,7 +7,9 @@ use Rattle.history.specs.History.{History}
 use Rattle.history.specs.Places.{TakesBound, AreCatalogueSound}
 use Rattle.history.specs.Presence.{entries_present, is_pending}
 use Rattle.row_router.specs.Siblings.{CanStandTogether}
+use Rattle.part_catalog.specs.declared.TheConstants.{ENTRY_LIMIT}
 use Rattle.part_catalog.specs.Found.{made_at}
+use Rattle.part_catalog.specs.Full.{added}
 use Rattle.part_ddl.specs.Below.{tables_from}
 use Rattle.part_ddl.specs.Dropped.{AreTwo}
 use Rattle.part_ddl.specs.Placing.{partitions_of, levels_with, place_faults}
@@ -22,6 +24,7 @@ pub record HasPlace (h : History) (session height : ℕ) (e : Entry) : Type 0 wh
   pub together : All (λ x. CanStandTogether x e) (entries_present h session)
   pub no_pending : All (IsNoDefaultBeside h session e) (entries_present h session)
   pub partitions : length (partitions_of h session e.parent.number) < 1024
+  pub added : added h < ENTRY_LIMIT
   pub levels : levels_with h session e.parent.number height ≤ 8
 
 abbrev pub PassedHavePlaces : Type 0

@@ -1,6 +1,6 @@
 -- Whether a partition may stand below a table (the manual, CREATE TABLE, PARTITION OF, and 5.11.2 Declarative
 -- Partitioning).
-use Rattle.std.specs.Prelude.{◌≡◌, ℕ, ◌+◌, List, [], ◌∷◌, ◌++◌, Option, Some, None, Result, Ok, Err, All, length, map, nat_le, nat_lt, option_map, position, slice_index_or}
+use Rattle.std.specs.Prelude.{◌≡◌, ℕ, ◌+◌, List, [], ◌∷◌, ◌++◌, ◌&&◌, Option, Some, None, Result, Ok, Err, All, length, map, nat_le, nat_lt, option_map, position, slice_index_or}
 use Rattle.pg_values.specs.declared.fault.Fault.{Fault}
 use Rattle.pg_values.specs.declared.fault.Refusal.{Refusal}
 use Rattle.pg_values.specs.declared.fault.Refusal.TheVariants.{Sql, NoMemory}
@@ -20,9 +20,10 @@ use Rattle.history.specs.declared.catalogue.TableShape.TheVariants.{Leaf, Level}
 use Rattle.history.specs.History.{History}
 use Rattle.history.specs.Presence.{entries_present}
 use Rattle.row_router.specs.Histories.{above, bound_of, children}
+use Rattle.part_catalog.specs.declared.TheConstants.{ENTRY_LIMIT}
 use Rattle.part_catalog.specs.Answers.{pending_entry}
 use Rattle.part_catalog.specs.Found.{made_at}
-use Rattle.part_catalog.specs.Full.{tables_above}
+use Rattle.part_catalog.specs.Full.{tables_above, added}
 
 -- ---- the table above
 
@@ -82,9 +83,9 @@ overlap_faults names bounds b = fault_at bound_overlaps names (position (overlap
 abbrev pub bound_faults : (parent : List ℕ) → (pending : Option (List ℕ)) → (names : List (List ℕ)) → List Bound → Bound → List Fault
 bound_faults parent pending names bounds b = default_faults parent pending names bounds b ++ (modulus_faults bounds b ++ overlap_faults names bounds b)
 
--- a table has 1,024 partitions at most, and a path 8 tables
-abbrev pub room_faults : (partitions levels : ℕ) → List Fault
-room_faults partitions levels = unless (nat_lt partitions 1024) (too_many Partitions) ++ unless (nat_le levels 8) (too_many Levels)
+-- a table has 1,024 partitions at most, a path 8 tables, and each partition that a run attaches a number of 64 bits
+abbrev pub room_faults : (partitions added levels : ℕ) → List Fault
+room_faults partitions added levels = unless (nat_lt partitions 1024 && nat_lt added ENTRY_LIMIT) (too_many Partitions) ++ unless (nat_le levels 8) (too_many Levels)
 
 -- the bounds are of one level
 pub record AreOfOneLevel (b : Bound) (bounds : List Bound) : Type 0 where
@@ -105,4 +106,4 @@ levels_with h session table height = tables_above (above (entries_present h sess
 abbrev pub place_faults : History → (session table : ℕ) → Bound → (height : ℕ) → List Fault
 place_faults h session table b height =
     bound_faults (made_at h table).name (pending_name h session table) (names_below h session table) (bounds_below h session table) b
-    ++ room_faults (length (partitions_of h session table)) (levels_with h session table height)
+    ++ room_faults (length (partitions_of h session table)) (added h) (levels_with h session table height)

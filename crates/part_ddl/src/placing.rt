@@ -15,7 +15,7 @@ ghost use Rattle.tx_table.specs.Stands.{TableStands};
 ghost use Rattle.row_router.specs.Histories.{above, bound_of};
 ghost use Rattle.part_catalog.specs.Answers.{AreTogether};
 ghost use Rattle.part_catalog.specs.Found.{made_at};
-ghost use Rattle.part_catalog.specs.Full.{tables_above};
+ghost use Rattle.part_catalog.specs.Full.{added, tables_above};
 ghost use Rattle.part_catalog.specs.Stands.{CatalogueStands};
 ghost use Rattle.part_ddl.specs.Placing as placing;
 ghost use Rattle.part_ddl.specs.Placing.{AreOfOneLevel, IsFault};
@@ -24,7 +24,7 @@ use crate::below::default_among;
 use bound_forms::{Bound, Level, RowKey, copy_bound};
 use history::{Entry, TableShape};
 use part_bounds::{BoundSet, find_child_uncounted, modulus_fault, overlap_uncounted, set_in_order};
-use part_catalog::{Catalog, LEVEL_LIMIT, PARTITION_LIMIT};
+use part_catalog::{Catalog, ENTRY_LIMIT, LEVEL_LIMIT, PARTITION_LIMIT};
 use pg_values::{NoMemory, Refusal, Row, TableNo, ValueKey, Which};
 use refusals::{
     bound_overlaps, modulus_does_not_suit, not_partitioned, partition_is_pending, second_default,
@@ -242,11 +242,11 @@ fn check_beside(
     check_overlap(alloc, catalog, &one, partitions, bound)
 }
 
-// A table has 1,024 partitions at most, and a path 8 tables.
-fn check_room(alloc: Global, partitions: usize, levels: usize) -> Result<(), Refusal>
-    ensures { IsAnswer result (or_first (placing.room_faults partitions levels) tt) }
+// A table has 1,024 partitions at most, a path 8 tables, and each partition that a run attaches a number of 64 bits.
+fn check_room(alloc: Global, partitions: usize, added: u64, levels: usize) -> Result<(), Refusal>
+    ensures { IsAnswer result (or_first (placing.room_faults partitions added levels) tt) }
 {
-    if partitions >= PARTITION_LIMIT {
+    if partitions >= PARTITION_LIMIT || added >= ENTRY_LIMIT {
         return Err(Refusal::Sql(too_many(alloc, Which::Partitions)?));
     }
     if levels > LEVEL_LIMIT {
@@ -268,10 +268,10 @@ fn check_level(
     requires known { All (λ e. e.child.number < length catalog.now.tables) (map (λ e. e.now) partitions.now) }
     requires level { AreOfOneLevel bound.now (map bound_of (map (λ e. e.now) partitions.now)) }
     ensures { (h : History) → CatalogueStands catalog.now h →
-        IsAnswer result (or_first (placing.bound_faults parent.now (option_map (λ n. n.now) pending.entry) (map (placing.child_name h) (map (λ e. e.now) partitions.now)) (map bound_of (map (λ e. e.now) partitions.now)) bound.now ++ placing.room_faults (length (map (λ e. e.now) partitions.now)) levels) tt) }
+        IsAnswer result (or_first (placing.bound_faults parent.now (option_map (λ n. n.now) pending.entry) (map (placing.child_name h) (map (λ e. e.now) partitions.now)) (map bound_of (map (λ e. e.now) partitions.now)) bound.now ++ placing.room_faults (length (map (λ e. e.now) partitions.now)) (added h) levels) tt) }
 {
     check_beside(alloc, catalog, parent, pending, partitions, bound)?;
-    check_room(alloc, partitions.len(), levels)
+    check_room(alloc, partitions.len(), catalog.entry_count(), levels)
 }
 
 // How many tables stand on the path from a table upwards, up to eight.
@@ -313,7 +313,8 @@ fn pending_name<'c>(
 /// Whether a table that is not partitioned, or has no partition yet, may stand below another under a
 /// bound of that one's level. It is refused as a second default (42P17), as a default beside a pending
 /// partition (55000), where its modulus does not suit a sibling's or its bound overlaps a sibling's
-/// (42P17), pending ones among them, and past 1,024 partitions or 8 tables on a path (54000).
+/// (42P17), pending ones among them, and past 1,024 partitions, `ENTRY_LIMIT` of them in the run, or 8
+/// tables on a path (54000).
 pub fn check_place(
     alloc: Global,
     catalog: &Catalog,

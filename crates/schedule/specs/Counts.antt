@@ -1,5 +1,5 @@
 -- What is counted of a run (partscript's own).
-use Rattle.std.specs.Prelude.{◌≡◌, ℕ, ◌+◌, Bool, true, false, if◌then◌else◌, List, [], ◌∷◌, is_some}
+use Rattle.std.specs.Prelude.{◌≡◌, ℕ, ◌+◌, min, Bool, true, false, if◌then◌else◌, List, [], ◌∷◌, is_some}
 use Rattle.schedule.specs.Blocks.{is_step}
 use Rattle.schedule.specs.Rules.{Rules}
 use Rattle.schedule.specs.Run.{World, Reaches, Here, Next, Runs, Throughout, effect}
@@ -42,15 +42,16 @@ is_error R v (Ending s) = is_some (R.fault v s)
 is_error R v (TornDown s) = is_some (R.fault v s)
 is_error R v _ = false
 
-abbrev pub one_if : Bool → ℕ
-one_if b = if b then 1 else 0
+-- with one more, where that is so: a count has 64 bits, and stays at the greatest where it would pass it
+abbrev pub plus_if : ℕ → Bool → ℕ
+plus_if n b = if b then min (n + 1) 18446744073709551615 else n
 
 -- with what is reported of an event, where the world has these tasks before it, and that database behind it
 abbrev pub with_report : {S : Type 0} → Rules S → Counts → List Task → Event → S → Report → Counts
 with_report R n tasks e v report = record {
-  steps = n.steps + one_if (is_launch tasks e);
-  waits = n.waits + one_if (is_wait report);
-  errors = n.errors + one_if (is_error R v report);
+  steps = plus_if n.steps (is_launch tasks e);
+  waits = plus_if n.waits (is_wait report);
+  errors = plus_if n.errors (is_error R v report);
 }
 
 abbrev pub with_event : {S : Type 0} → Rules S → World S → Counts → Event → Counts

@@ -1,7 +1,7 @@
 //! A run that is counted, and not printed.
 
-ghost use Rattle.std.specs.Prelude.{◌≡◌, ◌+◌, ℕ, None, All, IfOk, OnOk};
-ghost use Rattle.schedule.specs.Counts.{AreCounted, IsCounted, is_error, is_launch, is_step_next, is_wait, none, one_if, with_event};
+ghost use Rattle.std.specs.Prelude.{◌≡◌, ℕ, None, All, IfOk, OnOk};
+ghost use Rattle.schedule.specs.Counts.{AreCounted, IsCounted, is_error, is_launch, is_step_next, is_wait, none, plus_if, with_event};
 ghost use Rattle.schedule.specs.Run.{World, effect, next, start};
 ghost use Rattle.schedule.specs.Stands.{Stands, IsOf, Leaves, MayCome};
 ghost use Rattle.schedule.specs.Tasks.{AreKnown};
@@ -59,17 +59,11 @@ fn is_wait(report: Report) -> bool
     matches!(report, Report::Waiting { .. })
 }
 
-// With one more, where that is so.
-fn plus_if(count: u64, more: bool) -> Result<u64, NoMemory>
-    ensures { IfOk result (λ n. n ≡ count + one_if more) }
+// With one more, where that is so. A count stays at the greatest where it would pass it.
+fn plus_if(count: u64, more: bool) -> u64
+    ensures { result ≡ plus_if count more }
 {
-    if !more {
-        return Ok(count);
-    }
-    match count.checked_add(1) {
-        Some(next) => Ok(next),
-        None => Err(NoMemory),
-    }
+    if more { count.saturating_add(1) } else { count }
 }
 
 impl<'e, 's, D: Database> Engine<'e, 's, D> {
@@ -97,10 +91,10 @@ impl<'e, 's, D: Database> Engine<'e, 's, D> {
         ensures counts { IfOk result (λ n. (w : World D.State) → Stands D.Database self.old w → n ≡ with_event D.rules w counts event) }
         ensures falls { OnOk result (Falls D.Database self.old self.new) }
     {
-        let steps = plus_if(counts.steps, is_launch(self.tasks, event))?;
+        let steps = plus_if(counts.steps, is_launch(self.tasks, event));
         let report = self.apply(alloc, event)?;
-        let waits = plus_if(counts.waits, is_wait(report))?;
-        let errors = plus_if(counts.errors, self.is_error(report))?;
+        let waits = plus_if(counts.waits, is_wait(report));
+        let errors = plus_if(counts.errors, self.is_error(report));
         Ok(Counts {
             steps,
             waits,

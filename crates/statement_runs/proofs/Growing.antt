@@ -14,7 +14,7 @@ use Rattle.statement_steps.specs.declared.stop.Stop.TheVariants as stop
 use Rattle.change_statement.specs.Running.{IsCommandTold}
 use Rattle.statement_runs.specs.Executions.{Execution}
 use Rattle.statement_runs.specs.Given.{given, execution_given}
-use Rattle.statement_runs.specs.Tallies.{none, added, Grows}
+use Rattle.statement_runs.specs.Tallies.{none, summed, added, Grows}
 use Rattle.plan_tree.specs.declared.planning.Planning.{Planning}
 
 abbrev so_much : ℕ → ℕ → Tally
@@ -22,9 +22,9 @@ so_much a b = record { rows = a; reads = b }
 
 pub nothing_more : (n : Tally) → added n none ≡ n
 nothing_more n =
-    let rows : n.rows + 0 ≡ n.rows = omega arith in
-    let reads : n.reads + 0 ≡ n.reads = omega arith in
-    ap (λ x. so_much x (n.reads + 0)) rows ∙ ap (so_much n.rows) reads
+    let rows : summed n.rows 0 ≡ n.rows = omega arith in
+    let reads : summed n.reads 0 ≡ n.reads = omega arith in
+    ap (λ x. so_much x (summed n.reads 0)) rows ∙ ap (so_much n.rows) reads
 
 -- nothing has come to a tally
 pub stays_same : {X : Type 0} (r : Result X Stop) (n : Tally) → Grows r n n none

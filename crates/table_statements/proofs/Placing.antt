@@ -233,7 +233,7 @@ module _ (laws : PartitionLaws) (m : History) (s cmd parent : ℕ) (b : Bound) (
         parent_there = parent_there;
         child_there = child_there;
         guarded = inr (inl ready.locked);
-        room = record { partitions = law.partitions; levels = omega (arith, one, levels) };
+        room = record { partitions = law.partitions; added = law.added; levels = omega (arith, one, levels) };
         together = λ x at. All-contains (λ (y : Entry). CanStandTogether y e) (entries_present m s) x law.together at;
         no_pending = λ x at of pending. All-contains (IsNoDefaultBeside m s e) (entries_present m s) x law.no_pending at of pending;
         default_owned = λ d x is at. inl (owned d x (record { present = is.present; of = is.of; default = is.default }) at);

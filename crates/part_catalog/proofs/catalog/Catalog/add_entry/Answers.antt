@@ -18,6 +18,11 @@ use Rattle.part_catalog.proofs.Keeping.{added_stands}
 use Rattle.part_catalog.proofs.Adding.{orders_of, partitions_told, above_told_flagged, too_deep, deep_enough}
 use Rattle.part_catalog.proofs.catalog.Catalog.add_entry.Goals as goal
 
+pub returns-then-self-ge-ENTRY_LIMIT-clause-cause : goal.returns-then-self-ge-ENTRY_LIMIT-clause-cause
+returns-then-self-ge-ENTRY_LIMIT-clause-cause c h txs st =
+    let same : c.self.inside.added ≡ c.args.self.now.added = ap (λ (k : KeptCatalogue). k.added) c.self.view_is in
+    inl (refl, inr (omega (arith, same, st.added, c.if-self-ge-ENTRY_LIMIT.true)))
+
 pub returns-then-count_shown-ge-PARTITION_LIMIT-clause-cause : goal.returns-then-count_shown-ge-PARTITION_LIMIT-clause-cause
 returns-then-count_shown-ge-PARTITION_LIMIT-clause-cause c h txs st =
     let kept = c.args.self.now in
@@ -33,7 +38,7 @@ returns-then-count_shown-ge-PARTITION_LIMIT-clause-cause c h txs st =
     let list : c.index.result.now ≡ get_or c.self.inside.below.items p [] = grind (arith, common_steps, elements, c.index.ensures) in
     let numbers : c.numbers.result.now ≡ map number_of (children (by_place kept.entries) p) = c.numbers.ensures ∙ list ∙ c.self.invariant.0.listed.below p known ∙ ap (λ (es : List StoredEntry). map number_of (children (by_place es) p)) entries in
     let count : c.count_shown.result ≡ partitions h s p = c.count_shown.ensures ∙ partitions_told kept h s p c.deref-2.result.now c.numbers.result.now txs.sound st flags numbers in
-    inl (refl, omega (arith, count, c.if-count_shown-ge-PARTITION_LIMIT.true))
+    inl (refl, inl (omega (arith, count, c.if-count_shown-ge-PARTITION_LIMIT.true)))
 
 pub returns-then-levels_up-height_up_to-gt-LEVEL_LIMIT-clause-cause : goal.returns-then-levels_up-height_up_to-gt-LEVEL_LIMIT-clause-cause
 returns-then-levels_up-height_up_to-gt-LEVEL_LIMIT-clause-cause c h txs st =
@@ -94,7 +99,9 @@ returns-in-Ok-push_entry-clause-cause c h txs st =
     ∙ above_told_flagged kept h s p c.deref-4.result.now txs.sound st (c.deref-4.ensures.value ∙ present) in
     let deep : c.height_up_to.result ≡ min 9 (height (ddl_tree h s c.args.child.number)) =
     c.height_up_to.ensures ∙ ap (λ (t : TableTree). min 9 (height t)) (c.in-Ok.ensures h txs st ∙ ap (λ n. ddl_tree h n c.args.child.number) (c.session_of-session.ensures h txs)) in
+    let same : c.self.inside.added ≡ kept.added = ap (λ (k : KeptCatalogue). k.added) c.self.view_is in
     record {
       partitions = omega (arith, count, c.if-count_shown-ge-PARTITION_LIMIT.false);
+      added = omega (arith, same, st.added, c.if-self-ge-ENTRY_LIMIT.false);
       levels = deep_enough (tables_above (above (entries_present h s)) p) (height (ddl_tree h s c.args.child.number)) c.height_up_to.result deep (omega (arith, up, c.if-levels_up-height_up_to-gt-LEVEL_LIMIT.false));
     }
