@@ -248,6 +248,9 @@ stays_told (Err NoMemory) fs old is = tt
 
 -- ---- what stands against it
 
+pub one_target : (h : History) (s : ℕ) (g : Found) (t : Target) → IsTargetOf h s g.tree t → All (IsTargetOf h s g.tree) (t ∷ [])
+one_target h s g t is = let P = IsTargetOf h s g.tree in All-cons P t [] is (All-nil P)
+
 pub told_of : (r : Result (Unit {0}) Refusal) (h : History) (s : ℕ) (g : Found) (leaf : LeafId) (targets : List Target) (row : List Value) → All (IsTargetOf h s g.tree) targets → HasTarget targets leaf
     → IsAnswer r (or_first (leaf_faults (tables_of h) (find (is_into leaf) targets) row) tt) → IsAnswer r (or_first (holder_faults h s g.tree leaf row) tt)
 told_of r h s g leaf targets row are has is =

@@ -3,6 +3,7 @@
 ghost use Rattle.std.specs.Prelude.{◌≡◌, All, IfOk, Some, None, length, slice_index_or};
 ghost use Rattle.history.specs.History.{History};
 ghost use Rattle.tx_table.specs.Stands.{TableStands};
+ghost use Rattle.row_change.specs.Targets.{AreHolders};
 ghost use Rattle.change_statement.specs.Verdicts.{updater_meant};
 ghost use Rattle.cond_logic.specs.Asked.{change_meant};
 ghost use Rattle.change_statement.specs.Targets.{targets};
@@ -24,6 +25,7 @@ use crate::updating::{renew, store};
 use crate::waiting::pause;
 use crate::{ChangedRows, Updater, Verdict, decide, find_targets};
 use pg_values::{Isolation, NoMemory};
+use row_change::{Holders, holders_of};
 use statement_steps::{Caller, Gathered, SessionNames, Stop, TargetRow};
 use std::alloc::Global;
 use stores::Stores;
@@ -63,11 +65,13 @@ fn change_row(
     names: &SessionNames,
     caller: Caller,
     gathered: &Gathered,
+    holders: &Holders,
     change: Change<'_>,
     target: TargetRow,
     changed: u64,
 ) -> Result<Turn, Stop>
     requires may { MayRun (found_of gathered.now) stores.old caller }
+    requires holders { AreHolders holders.now (found_of gathered.now).tree }
     requires target { IsTargetIn stores.old.rows (found_of gathered.now) target }
     requires few { CanBeCounted changed 1 }
     ensures { IsTurn (changing change.entry caller (found_of gathered.now)) names.now result stores.old stores.new caller (found_of gathered.now) target changed }
@@ -79,7 +83,16 @@ fn change_row(
             match change {
                 Change::Update(_) => {
                     let row = renew(alloc, &stores.catalog, gathered, seen.row)?;
-                    store(alloc, stores, caller, gathered, target.leaf, id, row)?;
+                    store(
+                        alloc,
+                        stores,
+                        caller,
+                        gathered,
+                        holders,
+                        target.leaf,
+                        id,
+                        row,
+                    )?;
                     Ok(Turn::Counted(changed + 1))
                 }
                 Change::Delete(_) => {
@@ -116,11 +129,12 @@ pub(crate) fn change_rows(
     requires few { CanBeCounted changed (length targets.now) }
     ensures { IsRun (found_of gathered) changed_spec.told_by result stores.old stores.new caller (λ h. giving (changed_spec.told_of (found_of gathered)) (changed_spec.all_changed (changing change.entry caller (found_of gathered)) names.now caller (found_of gathered) targets.now changed h)) }
 {
+    let holders = holders_of(alloc, &gathered.tree)?;
     let mut left = targets;
     let mut changed = changed;
     while let Some((target, others)) = left.split_first() {
         let turn = change_row(
-            alloc, stores, names, caller, &gathered, change, *target, changed,
+            alloc, stores, names, caller, &gathered, &holders, change, *target, changed,
         )?;
         match turn {
             Turn::Counted(next) => {

@@ -6,7 +6,7 @@ ghost use Rattle.history.specs.History.{History};
 ghost use Rattle.row_router.specs.Seen.{seen};
 ghost use Rattle.row_store.specs.Kept.{stored_at};
 ghost use Rattle.row_change.specs.Succession.{KeepsVersions};
-ghost use Rattle.row_change.specs.Targets.{HasWay, holder_faults};
+ghost use Rattle.row_change.specs.Targets.{AreHolders, HasWay, holder_faults};
 ghost use Rattle.part_catalog.specs.Found.{made_at};
 ghost use Rattle.part_catalog.specs.Stands.{CatalogueStands};
 ghost use Rattle.change_statement.specs.NewRows.{new_row};
@@ -21,7 +21,9 @@ ghost use Rattle.change_statement.specs.Updated as updated;
 use crate::new_row;
 use part_catalog::Catalog;
 use pg_values::{LeafId, Refusal, Row, RowId};
-use row_change::{check_bounds, check_kept, check_leaf, leaf_targets, leaves_of, succeed_row};
+use row_change::{
+    Holders, check_bounds, check_kept, check_leaf, leaves_of, succeed_row, target_of,
+};
 use statement_steps::{Caller, Gathered, Stop};
 use std::alloc::Global;
 use std::slice::from_ref;
@@ -85,20 +87,23 @@ fn check_holder(
     stores: &Stores,
     caller: Caller,
     gathered: &Gathered,
+    holders: &Holders,
     leaf: LeafId,
     row: &Row,
 ) -> Result<(), Refusal>
     requires may { MayRun (found_of gathered.now) stores.now caller }
+    requires holders { AreHolders holders.now (found_of gathered.now).tree }
     requires of { AreRowsOf stores.now.catalog (found_of gathered.now).table (row.now ∷ []) }
     requires way { HasWay (found_of gathered.now).tree leaf }
     ensures { (h : History) → Stands stores.now h → IsAnswer result (or_first (holder_faults h caller.session (seen gathered.now.tree) leaf row.now) tt) }
 {
     trees_are_together();
     let catalog = &stores.catalog;
-    let session = caller.session;
-    let tree = &gathered.tree;
-    let targets = leaf_targets(alloc, catalog, &stores.txs, session, tree, from_ref(&leaf))?;
-    check_leaf(alloc, catalog, &targets, leaf, row)
+    let Some(table) = holders.of(leaf) else {
+        unreachable!()
+    };
+    let target = target_of(alloc, catalog, &stores.txs, caller.session, leaf, table)?;
+    check_leaf(alloc, catalog, from_ref(&target), leaf, row)
 }
 
 // And those that were gathered of the named table and of those above it, which others may have cut off since.
@@ -107,15 +112,17 @@ fn check(
     stores: &Stores,
     caller: Caller,
     gathered: &Gathered,
+    holders: &Holders,
     leaf: LeafId,
     row: &Row,
 ) -> Result<(), Refusal>
     requires may { MayRun (found_of gathered.now) stores.now caller }
+    requires holders { AreHolders holders.now (found_of gathered.now).tree }
     requires of { AreRowsOf stores.now.catalog (found_of gathered.now).table (row.now ∷ []) }
     requires way { HasWay (found_of gathered.now).tree leaf }
     ensures { (h : History) → Stands stores.now h → IsAnswer result (or_first (updated.against h caller.session (found_of gathered.now) leaf row.now) tt) }
 {
-    check_holder(alloc, stores, caller, gathered, leaf, row)?;
+    check_holder(alloc, stores, caller, gathered, holders, leaf, row)?;
     check_kept(alloc, &stores.catalog, &gathered.path, row)
 }
 
@@ -152,17 +159,19 @@ fn succeed(
 }
 
 /// The row takes the place of the version, in the leaf where it belongs: where no row may move, in that of the
-/// version.
+/// version. The tables of the tree are known by their leaves.
 pub(crate) fn store(
     alloc: Global,
     stores: &mut Stores,
     caller: Caller,
     gathered: &Gathered,
+    holders: &Holders,
     from: LeafId,
     id: RowId,
     row: Row,
 ) -> Result<(), Stop>
     requires may { MayRun (found_of gathered.now) stores.old caller }
+    requires holders { AreHolders holders.now (found_of gathered.now).tree }
     requires version { MayEndIn (found_of gathered.now) stores.old caller id }
     requires own { (stored_at stores.old.rows.stored id).version.leaf ≡ from }
     requires keys { Agree (change_meant gathered.now.ask).settings (stored_at stores.old.rows.stored id).version.row row }
@@ -172,6 +181,6 @@ pub(crate) fn store(
     ensures keeps { KeepsVersions stores.old.rows stores.new.rows }
 {
     let leaf = house(alloc, stores, gathered, from, &row)?;
-    check(alloc, stores, caller, gathered, leaf, &row)?;
+    check(alloc, stores, caller, gathered, holders, leaf, &row)?;
     succeed(alloc, stores, caller, gathered, from, id, leaf, row)
 }

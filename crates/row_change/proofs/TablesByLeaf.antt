@@ -8,10 +8,8 @@ use Rattle.row_router.specs.declared.node.Node.{Node}
 use Rattle.row_router.specs.declared.tree.Tree.{Tree}
 use Rattle.row_router.specs.Trees.{TableTree, LeafTable, LevelTable, Trees, End, More, trees_of}
 use Rattle.row_router.specs.Seen.{seen}
-use Rattle.row_change.specs.declared.by_leaf.ByLeaf.{ByLeaf}
 use Rattle.row_change.specs.Placing.{IsNumbered}
-use Rattle.row_change.specs.Places.{noted, AreHolders}
-use Rattle.row_change.specs.Targets.{last_table, holder_in, HasTarget, HasWay}
+use Rattle.row_change.specs.Targets.{last_table, holder_in, held_by, AreHolders, HasTarget, HasWay}
 use Rattle.row_change.specs.declared.target.Target.{Target}
 use Rattle.row_change.specs.Ways.{root, way_to, way_to_one, first_way}
 use Rattle.row_change.proofs.Targets.{last_is_made}
@@ -62,15 +60,18 @@ holder_way tree leaf table is = by_way (way_to leaf tree) refl is
     by_way None at is = absurd (cc)
     by_way (Some tables) at is = record { tables = tables; way = at; is = sym (let same : last_table (root tree) tables ≡ table = cc in same) }
 
-pub holder_is_made : (n : ℕ) (holders : ByLeaf TableNo) (tree : TableTree) (leaf : LeafId) (table : TableNo) → IsNumbered n tree → AreHolders holders tree → Some table ≡ noted holders leaf → table.number < n
+pub holder_is_made : (n : ℕ) (holders : List (Option TableNo)) (tree : TableTree) (leaf : LeafId) (table : TableNo) → IsNumbered n tree → AreHolders holders tree → Some table ≡ held_by holders leaf → table.number < n
 holder_is_made n holders tree leaf table known are is =
     let has = holder_way tree leaf table (sym (is ∙ are leaf)) in
     last_is_made n tree leaf has.tables table known has.way has.is
 
 -- a leaf to which there is a way has one
-pub no_holder : (holders : ByLeaf TableNo) (tree : TableTree) (targets : List Target) (leaf : LeafId) → AreHolders holders tree → None ≡ noted holders leaf → HasWay tree leaf → HasTarget targets leaf
-no_holder holders tree targets leaf are is way = absurd (by_way (way_to leaf tree) way (is ∙ are leaf))
+pub some_holder : (holders : List (Option TableNo)) (tree : TableTree) (leaf : LeafId) → AreHolders holders tree → None ≡ held_by holders leaf → HasWay tree leaf → ⊥
+some_holder holders tree leaf are is way = by_way (way_to leaf tree) way (is ∙ are leaf)
   where
     by_way : (o : Option (List TableNo)) → is_some o ≡ true → None ≡ option_map (last_table (root tree)) o → ⊥
     by_way None way is = absurd (cc)
     by_way (Some tables) way is = absurd (cc)
+
+pub no_holder : (holders : List (Option TableNo)) (tree : TableTree) (targets : List Target) (leaf : LeafId) → AreHolders holders tree → None ≡ held_by holders leaf → HasWay tree leaf → HasTarget targets leaf
+no_holder holders tree targets leaf are is way = absurd (some_holder holders tree leaf are is way)

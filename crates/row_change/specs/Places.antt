@@ -1,12 +1,9 @@
--- Targets and tables by their leaves.
+-- Targets by their leaves.
 use Rattle.std.specs.Prelude.{◌≡◌, ℕ, ◌<◌, List, Option, Some, None, find, length, slice_get, slice_index_or}
 use Rattle.pg_values.specs.declared.ids.LeafId.{LeafId}
-use Rattle.pg_values.specs.declared.ids.TableNo.{TableNo}
-use Rattle.row_router.specs.Trees.{TableTree}
 use Rattle.row_change.specs.declared.by_leaf.ByLeaf.{ByLeaf}
 use Rattle.row_change.specs.declared.target.Target.{Target}
 use Rattle.row_change.specs.Storing.{is_into}
-use Rattle.row_change.specs.Targets.{holder_in}
 
 -- what is noted of a leaf
 abbrev pub noted : {V : Type 0} → ByLeaf V → LeafId → Option V
@@ -20,7 +17,3 @@ at_place targets (Some k) = slice_get targets k
 pub record ArePlaces (places : ByLeaf ℕ) (targets : List Target) : Type 0 where
   pub first : (leaf : LeafId) → find (is_into leaf) targets ≡ at_place targets (noted places leaf)
   pub within : (leaf : LeafId) (k : ℕ) → noted places leaf ≡ Some k → k < length targets
-
--- of each leaf the table of the tree that has it
-abbrev pub AreHolders : ByLeaf TableNo → TableTree → Type 0
-AreHolders holders tree = (leaf : LeafId) → noted holders leaf ≡ holder_in tree leaf

@@ -1,5 +1,5 @@
 -- The leaves of rows, and what a statement that names a table of the tree above them knows of each.
-use Rattle.std.specs.Prelude.{◌≡◌, ℕ, true, false, is_some, List, [], ◌∷◌, Option, Some, Ok, option_map, All, length, unwrap_or}
+use Rattle.std.specs.Prelude.{◌≡◌, ℕ, true, false, is_some, List, [], ◌∷◌, Option, Some, None, Ok, option_map, All, length, slice_index_or, unwrap_or}
 use Rattle.std.specs.List.{list_any}
 use Rattle.pg_values.specs.declared.value.Value.{Value}
 use Rattle.pg_values.specs.declared.ids.LeafId.{LeafId}
@@ -30,6 +30,14 @@ last_table t (x ∷ xs) = last_table x xs
 -- the table of the tree that has the leaf
 abbrev pub holder_in : TableTree → LeafId → Option TableNo
 holder_in tree leaf = option_map (last_table (root tree)) (way_to leaf tree)
+
+-- the table of a leaf among those of leaves, each at the place of its leaf's number
+abbrev pub held_by : List (Option TableNo) → LeafId → Option TableNo
+held_by tables leaf = slice_index_or tables leaf.number None
+
+-- of each leaf the table of the tree that has it
+abbrev pub AreHolders : List (Option TableNo) → TableTree → Type 0
+AreHolders tables tree = (leaf : LeafId) → held_by tables leaf ≡ holder_in tree leaf
 
 -- of a row that comes from above only the CHECKs along a path are asked: these parts refuse it as the path does, and may be
 -- asked where the path may

@@ -1,14 +1,41 @@
+//! The tables of a tree by their leaves.
+
 ghost use Rattle.std.specs.Prelude.{◌≡◌, IfOk, OnOk};
 ghost use Rattle.std.specs.Option.{option_or};
 ghost use Rattle.pg_values.specs.declared.ids.LeafId.{LeafId};
 ghost use Rattle.row_router.specs.Seen.{seen};
-ghost use Rattle.row_change.specs.Places.{noted, AreHolders};
-ghost use Rattle.row_change.specs.Targets.{holder_in};
+ghost use Rattle.row_change.specs.Places.{noted};
+ghost use Rattle.row_change.specs.Targets.{held_by, holder_in, AreHolders};
 
 use crate::by_leaf::ByLeaf;
-use pg_values::{NoMemory, TableNo};
+use pg_values::{LeafId, NoMemory, TableNo};
 use row_router::{Shape, Tree};
 use std::alloc::Global;
+use std::marker::Model;
+
+/// The tables of leaves, seen as their list: each at the place of its leaf's number.
+#[derive(Drop)]
+pub struct Holders {
+    tables: ByLeaf<TableNo>,
+}
+
+impl Model for Holders {
+    ghost use Rattle.std.specs.Prelude.{List, Option};
+    ghost use Rattle.pg_values.specs.declared.ids.TableNo.{TableNo};
+
+    ghost Value = { List (Option TableNo) };
+
+    ghost view = { λ h. h.tables.notes.items };
+}
+
+impl Holders {
+    /// The table of a leaf.
+    pub fn of(&self, leaf: LeafId) -> Option<TableNo>
+        ensures { result ≡ held_by self.now leaf }
+    {
+        self.tables.of(leaf)
+    }
+}
 
 // Notes the tables of the tree by their leaves, each leaf's first one.
 #[tactic(auto, using(crate::proofs::TablesByLeaf::own_holder, crate::proofs::TablesByLeaf::holder_step))]
@@ -27,10 +54,10 @@ fn note_holders(tree: &Tree, holders: &mut ByLeaf<TableNo>) -> Result<(), NoMemo
 }
 
 /// The table of each leaf of the tree.
-pub fn holders_of(alloc: Global, tree: &Tree) -> Result<ByLeaf<TableNo>, NoMemory>
+pub fn holders_of(alloc: Global, tree: &Tree) -> Result<Holders, NoMemory>
     ensures { IfOk result (λ holders. AreHolders holders (seen tree.now)) }
 {
-    let mut holders = ByLeaf::new(alloc);
-    note_holders(tree, &mut holders)?;
-    Ok(holders)
+    let mut tables = ByLeaf::new(alloc);
+    note_holders(tree, &mut tables)?;
+    Ok(Holders { tables })
 }

@@ -10,12 +10,12 @@ ghost use Rattle.row_router.specs.Trees.{TableTree};
 ghost use Rattle.part_catalog.specs.Answers.{AreTogether};
 ghost use Rattle.part_catalog.specs.Stands.{CatalogueStands};
 ghost use Rattle.row_change.specs.Placing.{IsNumbered};
-ghost use Rattle.row_change.specs.Places.{AreHolders, ArePlaces};
-ghost use Rattle.row_change.specs.Targets.{holder_in, HasChecksOf, HasTarget, HasWay, IsTargetOf};
+ghost use Rattle.row_change.specs.Places.{ArePlaces};
+ghost use Rattle.row_change.specs.Targets.{holder_in, AreHolders, HasChecksOf, HasTarget, HasWay, IsTargetOf};
 
 use crate::Target;
 use crate::by_leaf::ByLeaf;
-use crate::holders::holders_of;
+use crate::holders::{Holders, holders_of};
 use part_catalog::Catalog;
 use pg_values::{LeafId, NoMemory, TableNo};
 use row_router::{PathPart, Tree};
@@ -41,7 +41,8 @@ fn path_for(
     }
 }
 
-fn target_of(
+/// The target of a leaf whose table this is.
+pub fn target_of(
     alloc: Global,
     catalog: &Catalog,
     txs: &TxTable,
@@ -71,7 +72,7 @@ fn add_target(
     txs: &TxTable,
     session: u32,
     _tree: &Tree,
-    holders: &ByLeaf<TableNo>,
+    holders: &Holders,
     leaf: LeafId,
     targets: &mut Vec<Target>,
     places: &mut ByLeaf<usize>,

@@ -33,12 +33,13 @@ mod testing;
 mod way;
 
 pub use full_rows::full_row;
+pub use holders::{Holders, holders_of};
 pub use laws::{
     rows_are_of_ways, rows_fit_paths, tables_are_made, targets_fit, ways_lead_to_leaves,
 };
 pub use leaf_list::LeafList;
 pub use leaves::{leaves_and_ways, leaves_of};
-pub use leaves_below::leaf_targets;
+pub use leaves_below::{leaf_targets, target_of};
 pub use placing::check_bounds;
 pub use storing::{check_leaf, store_rows};
 pub use succession::succeed_row;

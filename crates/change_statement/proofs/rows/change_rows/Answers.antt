@@ -1,17 +1,25 @@
 use Rattle.std.proofs.Common.{rules, ◌≡◌, ◌∷◌, [], Err, All, ap, refl, sym, subst, arith, length}
 use Rattle.std.proofs.lemmas.List.Elements.{All-head}
 use Rattle.stores.specs.declared.stores.Stores.{Stores}
+use Rattle.statement_steps.specs.Ended.{giving}
 use Rattle.statement_steps.specs.Gathered.{found_of}
+use Rattle.statement_steps.proofs.Parts.{stays}
 use Rattle.change_statement.specs.Changing.{changing}
-use Rattle.change_statement.specs.Changed.{paused, told_of}
+use Rattle.change_statement.specs.Changed.{all_changed, paused, told_by, told_of}
 use Rattle.change_statement.specs.Running.{IsRun, IsTargetIn, MayRun}
 use Rattle.change_statement.specs.Standing.{standing}
 use Rattle.change_statement.proofs.EachRow.{IsLeft, all_left, one_less, stops_there, waits_there, none_left, no_length}
-use Rattle.change_statement.proofs.Runs.{counted_run, handed_run, stopped_run}
+use Rattle.change_statement.proofs.Runs.{counted_run, handed_run, no_memory_run, stopped_run}
 use Rattle.change_statement.proofs.rows.change_rows.Goals as goal
 
 pub loop-target-init : goal.loop-target-init
 loop-target-init c = all_left c.requires.may c.requires.targets c.requires.few
+
+pub returns-in_err-holders : goal.returns-in_err-holders
+returns-in_err-holders c =
+    let g = found_of c.args.gathered in
+    handed_run c.from_residual.ensures.1
+    (no_memory_run g told_by c.args.stores.now c.args.stores.now c.args.caller (λ h. giving (told_of g) (all_changed (changing c.args.change c.args.caller g) c.args.names.now c.args.caller g c.args.targets.now c.args.changed h)) (stays c.args.stores.now c.args.caller.session))
 
 pub change_row-requires-clause-may : goal.change_row-requires-clause-may
 change_row-requires-clause-may c = c.loop-target.invariant.may
@@ -58,7 +66,7 @@ returns-in_err-turn c =
     let g = found_of c.args.gathered in
     let change = changing c.args.change c.args.caller g in
     let whole : c.loop-target.left.now ≡ c.in-Some.target.now ∷ c.in-Some.others.now = search rules in
-    handed_run c.from_residual.ensures.1 (stopped_run (told_of g)
+    handed_run c.from_residual-in_err-turn.ensures.1 (stopped_run (told_of g)
     (stops_there (subst (λ ts. IsLeft c.args.stores.now c.loop-target.stores c.args.caller g change c.args.names.now c.args.targets.now ts c.args.changed c.loop-target.changed) whole c.loop-target.invariant) c.in_err-turn.ensures))
 
 pub loop-target-preserved : goal.loop-target-preserved
