@@ -2,6 +2,7 @@ pub mod Bare
 pub mod Conditions
 pub mod Earlier
 pub mod EarlierColumns
+pub mod FirstOutputs
 pub mod Joins
 pub mod Parts
 pub mod Places

@@ -4,7 +4,9 @@ pub mod Counts
 pub mod From
 pub mod Inserts
 pub mod Items
+pub mod KeyNames
 pub mod Keys
+pub mod Known
 pub mod Lent
 pub mod Same
 pub mod Selects

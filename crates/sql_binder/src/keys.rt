@@ -8,10 +8,9 @@ ghost use Rattle.expression_binder.specs.Firsts.{or_first, IsAnswerBy};
 ghost use Rattle.expression_binder.specs.Lent.{option_now};
 ghost use Rattle.expression_binder.specs.Operands.{operand_faults};
 ghost use Rattle.sql_binder.specs.Keys as keys;
-ghost use Rattle.sql_binder.specs.Lent.{heading};
+ghost use Rattle.sql_binder.specs.Known.{scope_of, outputs_of};
 
-use crate::heading::Heading;
-use crate::same::same;
+use crate::key_names::KeyNames;
 use cond_logic::{SortBy, SortKey};
 use expression_binder::{
     Lookup, Names, ScopeItem, check_condition, check_look_up, check_operand, is_arithmetic,
@@ -30,50 +29,11 @@ pub enum Named {
     Several,
 }
 
-// Whether the output columns of that name give the expression.
-fn give_all(items: &[ScopeItem], name: &[u8], first: &Expr, others: &[Heading<'_>]) -> bool
-    ensures { result ≡ keys.give_all items.now name.now (tree first.now) (map heading others.now) }
+fn check_name(alloc: Global, known: &KeyNames<'_>, name: &[u8]) -> Result<(), Refusal>
+    ensures { IsAnswer result (or_first (keys.name_faults (scope_of known.now) name.now (keys.output_named (scope_of known.now).items name.now 0 (outputs_of known.now))) tt) }
 {
-    for other in others {
-        if other.name() == name && !same(items, other.value(), first) {
-            return false;
-        }
-    }
-    true
-}
-
-fn one_of(place: usize, is_one: bool) -> Named
-    ensures { result ≡ keys.one_of place is_one }
-{
-    if is_one {
-        Named::One(place)
-    } else {
-        Named::Several
-    }
-}
-
-fn output_named(items: &[ScopeItem], outputs: &[Heading<'_>], name: &[u8]) -> Named
-    ensures { result ≡ keys.output_named items.now name.now 0 (map heading outputs.now) }
-{
-    for (place, output) in outputs.iter().enumerate() {
-        if output.name() == name {
-            let others = &outputs[place + 1..];
-            return one_of(place, give_all(items, name, output.value(), others));
-        }
-    }
-    Named::Missing
-}
-
-fn check_name(
-    alloc: Global,
-    names: &Names<'_>,
-    name: &[u8],
-    outputs: &[Heading<'_>],
-) -> Result<(), Refusal>
-    ensures { IsAnswer result (or_first (keys.name_faults names.now name.now (keys.output_named names.now.items name.now 0 (map heading outputs.now))) tt) }
-{
-    match output_named(names.items(), outputs, name) {
-        Named::Missing => check_look_up(alloc, name, look_up(names.items(), name)),
+    match known.output_named(name) {
+        Named::Missing => check_look_up(alloc, name, look_up(known.names().items(), name)),
         Named::One(_) => Ok(()),
         Named::Several => Err(Refusal::Sql(ambiguous(alloc, name)?)),
     }
@@ -102,19 +62,14 @@ fn check_as_condition(alloc: Global, names: &Names<'_>, e: &Expr) -> Result<(), 
     Err(Refusal::Sql(left_out(alloc, b"ORDER")?))
 }
 
-fn check_leaf(
-    alloc: Global,
-    names: &Names<'_>,
-    outputs: &[Heading<'_>],
-    e: &Expr,
-    leaf: &Leaf,
-) -> Result<(), Refusal>
+fn check_leaf(alloc: Global, known: &KeyNames<'_>, e: &Expr, leaf: &Leaf) -> Result<(), Refusal>
     requires { tree e.now ≡ leaf_tree leaf.now }
-    ensures { IsAnswer result (or_first (keys.key_faults names.now (map heading outputs.now) (leaf_tree leaf.now)) tt) }
+    ensures { IsAnswer result (or_first (keys.key_faults (scope_of known.now) (outputs_of known.now) (leaf_tree leaf.now)) tt) }
 {
+    let names = known.names();
     match leaf {
-        Leaf::Number(n) => check_position(alloc, *n, outputs.len()),
-        Leaf::Column(name) => check_name(alloc, names, name.as_bytes(), outputs),
+        Leaf::Number(n) => check_position(alloc, *n, known.count()),
+        Leaf::Column(name) => check_name(alloc, known, name.as_bytes()),
         Leaf::ColumnOf(_, _) => check_operand(alloc, names, e),
         Leaf::TableName => check_operand(alloc, names, e),
         Leaf::TableNameOf(_) => check_operand(alloc, names, e),
@@ -126,16 +81,12 @@ fn check_leaf(
     }
 }
 
-fn check_key(
-    alloc: Global,
-    names: &Names<'_>,
-    outputs: &[Heading<'_>],
-    e: &Expr,
-) -> Result<(), Refusal>
-    ensures { IsAnswer result (or_first (keys.key_faults names.now (map heading outputs.now) (tree e.now)) tt) }
+fn check_key(alloc: Global, known: &KeyNames<'_>, e: &Expr) -> Result<(), Refusal>
+    ensures { IsAnswer result (or_first (keys.key_faults (scope_of known.now) (outputs_of known.now) (tree e.now)) tt) }
 {
+    let names = known.names();
     match e {
-        Expr::Leaf(leaf) => check_leaf(alloc, names, outputs, e, leaf),
+        Expr::Leaf(leaf) => check_leaf(alloc, known, e, leaf),
         Expr::Call(_, _) => check_other(alloc, names, e),
         Expr::CallOfAll(_) => check_other(alloc, names, e),
         Expr::Negated(_) => check_other(alloc, names, e),
@@ -157,16 +108,11 @@ fn check_key(
 
 /// The first fault of names and kinds in ORDER BY: 42702, 42703, 42P10, or 0A000 for a key that is
 /// computed.
-pub(crate) fn check_keys(
-    alloc: Global,
-    names: &Names<'_>,
-    outputs: &[Heading<'_>],
-    order: &[Key],
-) -> Result<(), Refusal>
-    ensures { IsAnswer result (or_first (keys.keys_faults names.now (map heading outputs.now) (map key_tree order.now)) tt) }
+pub(crate) fn check_keys(alloc: Global, known: &KeyNames<'_>, order: &[Key]) -> Result<(), Refusal>
+    ensures { IsAnswer result (or_first (keys.keys_faults (scope_of known.now) (outputs_of known.now) (map key_tree order.now)) tt) }
 {
     for key in order {
-        check_key(alloc, names, outputs, &key.value)?;
+        check_key(alloc, known, &key.value)?;
     }
     Ok(())
 }
@@ -195,11 +141,11 @@ fn by_column(found: Lookup) -> SortBy
     }
 }
 
-fn by_name(names: &Names<'_>, name: &[u8], outputs: &[Heading<'_>]) -> SortBy
-    ensures { result ≡ keys.by_name names.now name.now (keys.output_named names.now.items name.now 0 (map heading outputs.now)) }
+fn by_name(known: &KeyNames<'_>, name: &[u8]) -> SortBy
+    ensures { result ≡ keys.by_name (scope_of known.now) name.now (keys.output_named (scope_of known.now).items name.now 0 (outputs_of known.now)) }
 {
-    match output_named(names.items(), outputs, name) {
-        Named::Missing => by_column(look_up(names.items(), name)),
+    match known.output_named(name) {
+        Named::Missing => by_column(look_up(known.names().items(), name)),
         Named::One(place) => SortBy::Output(place),
         Named::Several => SortBy::Output(0),
     }
@@ -223,13 +169,13 @@ fn by_item_table(item: Option<&ScopeItem>) -> SortBy
     }
 }
 
-fn leaf_by(names: &Names<'_>, outputs: &[Heading<'_>], leaf: &Leaf) -> SortBy
-    ensures { result ≡ keys.key_by names.now (map heading outputs.now) (leaf_tree leaf.now) }
+fn leaf_by(known: &KeyNames<'_>, leaf: &Leaf) -> SortBy
+    ensures { result ≡ keys.key_by (scope_of known.now) (outputs_of known.now) (leaf_tree leaf.now) }
 {
-    let items = names.items();
+    let items = known.names().items();
     match leaf {
         Leaf::Number(n) => SortBy::Output(n.saturating_sub(1) as usize),
-        Leaf::Column(name) => by_name(names, name.as_bytes(), outputs),
+        Leaf::Column(name) => by_name(known, name.as_bytes()),
         Leaf::ColumnOf(table, name) => {
             by_column(look_up_in(items, table.as_bytes(), name.as_bytes()))
         }
@@ -243,11 +189,11 @@ fn leaf_by(names: &Names<'_>, outputs: &[Heading<'_>], leaf: &Leaf) -> SortBy
     }
 }
 
-fn key_by(names: &Names<'_>, outputs: &[Heading<'_>], e: &Expr) -> SortBy
-    ensures { result ≡ keys.key_by names.now (map heading outputs.now) (tree e.now) }
+fn key_by(known: &KeyNames<'_>, e: &Expr) -> SortBy
+    ensures { result ≡ keys.key_by (scope_of known.now) (outputs_of known.now) (tree e.now) }
 {
     match e {
-        Expr::Leaf(leaf) => leaf_by(names, outputs, leaf),
+        Expr::Leaf(leaf) => leaf_by(known, leaf),
         Expr::Call(_, _) => SortBy::Output(0),
         Expr::CallOfAll(_) => SortBy::Output(0),
         Expr::Negated(_) => SortBy::Output(0),
@@ -261,11 +207,11 @@ fn key_by(names: &Names<'_>, outputs: &[Heading<'_>], e: &Expr) -> SortBy
     }
 }
 
-fn sort_key(names: &Names<'_>, outputs: &[Heading<'_>], key: &Key) -> SortKey
-    ensures { result ≡ keys.sort_key names.now (map heading outputs.now) (key_tree key.now) }
+fn sort_key(known: &KeyNames<'_>, key: &Key) -> SortKey
+    ensures { result ≡ keys.sort_key (scope_of known.now) (outputs_of known.now) (key_tree key.now) }
 {
     SortKey {
-        by: key_by(names, outputs, &key.value),
+        by: key_by(known, &key.value),
         descending: key.descending,
         nulls_first: key.nulls_first,
     }
@@ -281,16 +227,15 @@ fn add(sort: &mut Vec<SortKey>, key: SortKey) -> Result<(), NoMemory>
 /// What rows are sorted by, or the first fault of a constant of ORDER BY: 22003.
 pub(crate) fn bind_keys(
     alloc: Global,
-    names: &Names<'_>,
-    outputs: &[Heading<'_>],
+    known: &KeyNames<'_>,
     order: &[Key],
 ) -> Result<Vec<SortKey>, Refusal>
-    ensures { IsAnswerBy (λ v. v.items) result (or_first (keys.keys_constants (map key_tree order.now)) (keys.sort_keys names.now (map heading outputs.now) (map key_tree order.now))) }
+    ensures { IsAnswerBy (λ v. v.items) result (or_first (keys.keys_constants (map key_tree order.now)) (keys.sort_keys (scope_of known.now) (outputs_of known.now) (map key_tree order.now))) }
 {
     let mut sort = Vec::new(alloc);
     for key in order {
         check_constant(alloc, &key.value)?;
-        add(&mut sort, sort_key(names, outputs, key))?;
+        add(&mut sort, sort_key(known, key))?;
     }
     Ok(sort)
 }

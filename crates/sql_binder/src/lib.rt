@@ -21,6 +21,7 @@ mod from;
 mod heading;
 mod inserts;
 mod items;
+mod key_names;
 mod keys;
 mod same;
 mod selects;

@@ -7,7 +7,9 @@ ghost use Rattle.expression_binder.specs.Firsts.{or_first, fault_in, IsAnswerBy}
 ghost use Rattle.sql_binder.specs.Counts as counts;
 ghost use Rattle.sql_binder.specs.From as from;
 ghost use Rattle.sql_binder.specs.Items as items_of;
+ghost use Rattle.sql_binder.specs.KeyNames.{asked_for};
 ghost use Rattle.sql_binder.specs.Keys as keys;
+ghost use Rattle.sql_binder.specs.Known.{scope_of, outputs_of};
 ghost use Rattle.sql_binder.specs.Lent.{heading};
 ghost use Rattle.sql_binder.specs.Selects as selects;
 ghost use Rattle.sql_binder.specs.Selects.{bound_select};
@@ -17,12 +19,13 @@ use crate::counts::{bind_count, check_count_of};
 use crate::from::{bind_conditions, check_conditions, check_from};
 use crate::heading::Heading;
 use crate::items::{bind_list, check_list, in_a_select_list, output_headings};
+use crate::key_names::KeyNames;
 use crate::keys::{bind_keys, check_keys};
 use cond_logic::{Cond, Output, SelectAsk, SortKey};
 use expression_binder::{Names, Param, ScopeItem, condition_names};
 use pg_values::{ListOf, NoMemory, PgText, Refusal};
 use refusals::{negative_limit, negative_offset};
-use sql_ast::Select;
+use sql_ast::{Select, SelectItem, SortKey as Key};
 use std::alloc::Global;
 
 fn list_scope<'a>(items: &'a [ScopeItem], params: &'a [Param], session: u32) -> Names<'a>
@@ -68,18 +71,18 @@ fn check_front(
 // ORDER BY, LIMIT and OFFSET.
 fn check_tail(
     alloc: Global,
-    names: &Names<'_>,
+    known: &KeyNames<'_>,
     counting: &Names<'_>,
-    outputs: &[Heading<'_>],
     select: &Select,
 ) -> Result<(), Refusal>
-    ensures { IsAnswer result (or_first (keys.keys_faults names.now (map heading outputs.now) (map key_tree select.now.order) ++ (counts.count_faults counting.now (maybe_tree select.now.limit) ++ counts.count_faults counting.now (maybe_tree select.now.offset))) tt) }
+    ensures { IsAnswer result (or_first (keys.keys_faults (scope_of known.now) (outputs_of known.now) (map key_tree select.now.order) ++ (counts.count_faults counting.now (maybe_tree select.now.limit) ++ counts.count_faults counting.now (maybe_tree select.now.offset))) tt) }
 {
-    check_keys(alloc, names, outputs, select.order.as_slice())?;
+    check_keys(alloc, known, select.order.as_slice())?;
     check_count_of(alloc, counting, &select.limit)?;
     check_count_of(alloc, counting, &select.offset)
 }
 
+#[tactic(auto, using(crate::proofs::FirstOutputs::faults_asked))]
 fn check_names(
     alloc: Global,
     select: &Select,
@@ -87,15 +90,15 @@ fn check_names(
     params: &[Param],
     session: u32,
     counting: &Names<'_>,
-    outputs: &[Heading<'_>],
+    known: &KeyNames<'_>,
 ) -> Result<(), Refusal>
     requires counting { counting.now ≡ selects.count_scope items.now params.now session }
-    requires outputs { map heading outputs.now ≡ items_of.list_headings items.now (map item_tree select.now.items) }
+    requires scope { scope_of known.now ≡ selects.list_scope items.now params.now session }
+    requires outputs { outputs_of known.now ≡ asked_for (map key_tree select.now.order) (items_of.list_headings items.now (map item_tree select.now.items)) }
     ensures { IsAnswer result (or_first (selects.name_faults items.now params.now session (select_tree select.now)) tt) }
 {
-    let names = list_scope(items, params, session);
-    check_front(alloc, &names, select, items, params, session)?;
-    check_tail(alloc, &names, counting, outputs, select)
+    check_front(alloc, known.names(), select, items, params, session)?;
+    check_tail(alloc, known, counting, select)
 }
 
 fn bind_counts(
@@ -113,14 +116,13 @@ fn bind_counts(
 // ORDER BY, LIMIT and OFFSET.
 fn bind_tail(
     alloc: Global,
-    names: &Names<'_>,
+    known: &KeyNames<'_>,
     counting: &Names<'_>,
-    outputs: &[Heading<'_>],
     select: &Select,
 ) -> Result<(Vec<SortKey>, (Option<u64>, Option<u64>)), Refusal>
-    ensures { IsAnswerBy {U = selects.Tail} (λ p. (p.0.items, p.1)) result (or_first (keys.keys_constants (map key_tree select.now.order) ++ (fault_in (counts.count refusals.negative_limit counting.now (maybe_tree select.now.limit)) ++ fault_in (counts.count refusals.negative_offset counting.now (maybe_tree select.now.offset)))) (keys.sort_keys names.now (map heading outputs.now) (map key_tree select.now.order), (counts.or_none (counts.count refusals.negative_limit counting.now (maybe_tree select.now.limit)), counts.or_none (counts.count refusals.negative_offset counting.now (maybe_tree select.now.offset))))) }
+    ensures { IsAnswerBy {U = selects.Tail} (λ p. (p.0.items, p.1)) result (or_first (keys.keys_constants (map key_tree select.now.order) ++ (fault_in (counts.count refusals.negative_limit counting.now (maybe_tree select.now.limit)) ++ fault_in (counts.count refusals.negative_offset counting.now (maybe_tree select.now.offset)))) (keys.sort_keys (scope_of known.now) (outputs_of known.now) (map key_tree select.now.order), (counts.or_none (counts.count refusals.negative_limit counting.now (maybe_tree select.now.limit)), counts.or_none (counts.count refusals.negative_offset counting.now (maybe_tree select.now.offset))))) }
 {
-    let order = bind_keys(alloc, names, outputs, select.order.as_slice())?;
+    let order = bind_keys(alloc, known, select.order.as_slice())?;
     let counts = bind_counts(alloc, counting, select)?;
     Ok((order, counts))
 }
@@ -167,16 +169,32 @@ fn bind_parts(
     params: &[Param],
     session: u32,
     counting: &Names<'_>,
-    headings: &[Heading<'_>],
+    known: &KeyNames<'_>,
 ) -> Result<SelectAsk, Refusal>
     requires counting { counting.now ≡ selects.count_scope items.now params.now session }
-    requires outputs { map heading headings.now ≡ items_of.list_headings items.now (map item_tree select.now.items) }
+    requires scope { scope_of known.now ≡ selects.list_scope items.now params.now session }
+    requires outputs { outputs_of known.now ≡ asked_for (map key_tree select.now.order) (items_of.list_headings items.now (map item_tree select.now.items)) }
     ensures { IsAnswerBy select_meant result (or_first (selects.constant_faults items.now params.now session (select_tree select.now)) (selects.meaning items.now params.now session (select_tree select.now))) }
 {
-    let names = list_scope(items, params, session);
-    let (outputs, conditions) = bind_front(alloc, &names, select, items, params, session)?;
-    let (order, (limit, offset)) = bind_tail(alloc, &names, counting, headings, select)?;
+    let names = known.names();
+    let (outputs, conditions) = bind_front(alloc, names, select, items, params, session)?;
+    let (order, (limit, offset)) = bind_tail(alloc, known, counting, select)?;
     Ok(ask_for(outputs, conditions, order, limit, offset))
+}
+
+// The output columns that keys may name.
+fn key_headings<'a>(
+    alloc: Global,
+    items: &'a [ScopeItem],
+    list: &'a [SelectItem],
+    order: &[Key],
+) -> Result<Vec<Heading<'a>>, NoMemory>
+    ensures { IfOk result (λ hs. map heading hs.items ≡ asked_for (map key_tree order.now) (items_of.list_headings items.now (map item_tree list.now))) }
+{
+    match order {
+        [] => Ok(Vec::new(alloc)),
+        [_, ..] => output_headings(alloc, items, list),
+    }
 }
 
 fn bind_checked(
@@ -188,11 +206,14 @@ fn bind_checked(
 ) -> Result<SelectAsk, Refusal>
     ensures { IsAnswerBy select_meant result (or_first (selects.name_faults items.now params.now session (select_tree select.now) ++ selects.constant_faults items.now params.now session (select_tree select.now)) (selects.meaning items.now params.now session (select_tree select.now))) }
 {
-    let outputs = output_headings(alloc, items, select.items.as_slice())?;
+    let names = list_scope(items, params, session);
+    let list = select.items.as_slice();
+    let headings = key_headings(alloc, items, list, select.order.as_slice())?;
+    let known = KeyNames::new(alloc, &names, &headings)?;
     let bare = bare_items(alloc, items)?;
     let counting = condition_names(&bare, params, session);
-    check_names(alloc, select, items, params, session, &counting, &outputs)?;
-    bind_parts(alloc, select, items, params, session, &counting, &outputs)
+    check_names(alloc, select, items, params, session, &counting, &known)?;
+    bind_parts(alloc, select, items, params, session, &counting, &known)
 }
 
 /// The SELECT by places and values, over the items of its FROM, in their order; or its first fault. The

@@ -1,4 +1,4 @@
-ghost use Rattle.std.specs.Prelude.{◌≡◌, ◌++◌, ◌∷◌, [], All, map, nat_le, length, position, unwrap_or, OnOk, IfOk};
+ghost use Rattle.std.specs.Prelude.{◌≡◌, ◌++◌, ◌∷◌, [], All, not, if◌then◌else◌, map, nat_le, length, position, unwrap_or, OnOk, IfOk};
 ghost use Rattle.std.specs.List.{list_any};
 ghost use Rattle.std.specs.Str.{bytes_eq};
 ghost use Rattle.pg_values.specs.declared.which.Which.TheVariants.{KeyColumns as WhichKeyColumns};
@@ -11,6 +11,7 @@ ghost use Rattle.table_binder.specs.Partitionings as spec;
 
 use bound_forms::{KeyColumn, KeyColumns, Level};
 use history::Column;
+use indexmap::IndexSet;
 use pg_values::{NoMemory, PgText, Refusal, Strategy, Which};
 use refusals::{no_column, takes_one_column, too_many, twice_in_key};
 use sql_ast::Partitioning;
@@ -31,32 +32,36 @@ fn check_one_if_list(alloc: Global, strategy: Strategy, count: usize) -> Result<
     }
 }
 
-fn is_among(names: &[PgText], name: &[u8]) -> bool
-    ensures { result ≡ list_any (bytes_eq name.now) names.now }
+// Notes the name, and says whether it is a new one.
+fn note<'n>(earlier: &mut IndexSet<&'n [u8]>, name: &'n [u8]) -> Result<bool, NoMemory>
+    ensures new { IfOk result (λ is_new. is_new ≡ not (list_any (bytes_eq name.now) (names_spec.bytes_of earlier.old.keys))) }
+    ensures noted { IfOk result (λ is_new. names_spec.bytes_of earlier.new.keys ≡ (if is_new then names_spec.bytes_of earlier.old.keys ++ name.now ∷ [] else names_spec.bytes_of earlier.old.keys)) }
 {
-    for other in names {
-        if name == other.as_bytes() {
-            return true;
-        }
-    }
-    false
+    let is_new = earlier.insert(name)?;
+    Ok(is_new)
 }
 
-fn check_once(alloc: Global, earlier: &[PgText], name: &[u8]) -> Result<(), Refusal>
-    ensures { IsAnswer result (or_first (names_spec.once_faults refusals.twice_in_key earlier.now name.now) tt) }
+fn check_once<'n>(
+    alloc: Global,
+    earlier: &mut IndexSet<&'n [u8]>,
+    name: &'n [u8],
+) -> Result<(), Refusal>
+    ensures answer { IsAnswer result (or_first (names_spec.once_faults refusals.twice_in_key (names_spec.bytes_of earlier.old.keys) name.now) tt) }
+    ensures noted { OnOk result (names_spec.bytes_of earlier.new.keys ≡ names_spec.bytes_of earlier.old.keys ++ name.now ∷ []) }
 {
-    if is_among(earlier, name) {
-        return Err(Refusal::Sql(twice_in_key(alloc, name)?));
+    if note(earlier, name)? {
+        return Ok(());
     }
-    Ok(())
+    Err(Refusal::Sql(twice_in_key(alloc, name)?))
 }
 
 // No column stands in the key twice.
 fn check_names(alloc: Global, names: &[PgText]) -> Result<(), Refusal>
     ensures { IsAnswer result (or_first (names_spec.twice_faults refusals.twice_in_key [] names.now) tt) }
 {
-    for (place, name) in names.iter().enumerate() {
-        check_once(alloc, &names[..place], name.as_bytes())?;
+    let mut earlier = IndexSet::new(alloc);
+    for name in names {
+        check_once(alloc, &mut earlier, name.as_bytes())?;
     }
     Ok(())
 }
