@@ -10,13 +10,15 @@
 //! list of all numbers in the order of the text. It is a number and nothing more, so `$4294967295` costs as little as
 //! `$1`.
 //!
-//! The list is in the order of PREPARE, and a name is found in it by its hash. A refused call leaves it as it was, and so
-//! does one for which memory runs out.
+//! The list is in the order of PREPARE, and a name is found in it by its hash. DEALLOCATE leaves the place of its statement
+//! empty, and moves no other one. A refused call leaves the list as it was, and so does one for which memory runs out.
 #![tactic(auto)]
 
 mod kinds;
 mod name;
 mod numbers;
+mod place;
+mod places;
 mod prepared_list;
 mod prepared_statement;
 

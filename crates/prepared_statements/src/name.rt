@@ -1,37 +1,49 @@
-//! Prepared statements are told from each other, and found, by their names.
+//! Prepared statements are told from each other, and found, by their names, and empty places by their numbers.
 
 ghost use Rattle.std.specs.Prelude.{◌∷◌, []};
 ghost use Rattle.std.specs.Cmp.{on_equiv, on_per, partial_equiv_from_equiv};
 ghost use Rattle.std.specs.Cmp.Lexicographic.{bytes_decides, nat_list_eq_equiv};
 ghost use Rattle.std.specs.Str.{bytes_eq};
 ghost use Rattle.std.proofs.Common.{ap};
-ghost use Rattle.prepared_statements.specs.Names.{name_of, bytes_of};
+ghost use Rattle.prepared_statements.specs.Names.{bears, bytes_of, hashed, key_of, key_of_name};
 
-use crate::PreparedStatement;
+use crate::place::Place;
 use indexmap::Equivalent;
 use std::hash::{Hash, Hasher};
 
-impl PartialEq for PreparedStatement {
-    ghost eq = { λ a b. bytes_eq (name_of a) (name_of b) };
+impl PartialEq for Place {
+    ghost eq = { λ a b. bytes_eq (key_of a) (key_of b) };
 
-    ghost laws = { on_per name_of (partial_equiv_from_equiv nat_list_eq_equiv) };
+    ghost laws = { on_per key_of (partial_equiv_from_equiv nat_list_eq_equiv) };
 
-    fn eq(&self, other: &PreparedStatement) -> bool {
-        self.name() == other.name()
+    fn eq(&self, other: &Place) -> bool {
+        match self {
+            Place::Taken(statement) => match other {
+                Place::Taken(other) => statement.name() == other.name(),
+                Place::Empty(_) => false,
+            },
+            Place::Empty(number) => match other {
+                Place::Taken(_) => false,
+                Place::Empty(other) => *number == *other,
+            },
+        }
     }
 }
 
-impl Eq for PreparedStatement {
-    ghost laws = { on_equiv name_of nat_list_eq_equiv };
+impl Eq for Place {
+    ghost laws = { on_equiv key_of nat_list_eq_equiv };
 }
 
-impl Hash for PreparedStatement {
-    ghost hash_input = { λ s. name_of s ∷ [] };
+impl Hash for Place {
+    ghost hash_input = { λ p. hashed (key_of p) };
 
-    ghost respects_eq = { λ a b h. ap (λ n. n ∷ []) ((bytes_decides (name_of a) (name_of b)).0 h) };
+    ghost respects_eq = { λ a b h. ap hashed ((bytes_decides (key_of a) (key_of b)).0 h) };
 
     fn hash<H: Hasher>(&self, state: &mut H) {
-        state.write(self.name());
+        match self {
+            Place::Taken(statement) => state.write(statement.name()),
+            Place::Empty(number) => state.write_usize(*number),
+        }
     }
 }
 
@@ -65,14 +77,17 @@ impl Hash for Name<'_> {
     }
 }
 
-impl Equivalent<PreparedStatement> for Name<'_> {
-    ghost equivalent = { λ n s. bytes_eq (bytes_of n) (name_of s) };
+impl Equivalent<Place> for Name<'_> {
+    ghost equivalent = { λ n p. bears (bytes_of n) p };
 
-    ghost respects_hash = { λ n s h. ap (λ b. b ∷ []) ((bytes_decides (bytes_of n) (name_of s)).0 h) };
+    ghost respects_hash = { λ n p h. ap hashed ((bytes_decides (key_of_name (bytes_of n)) (key_of p)).0 h) };
 
-    ghost respects_eq = { λ n s t. nat_list_eq_equiv.congr (bytes_of n) (name_of s) (name_of t) };
+    ghost respects_eq = { λ n p q. nat_list_eq_equiv.congr (key_of_name (bytes_of n)) (key_of p) (key_of q) };
 
-    fn equivalent(&self, key: &PreparedStatement) -> bool {
-        self.bytes == key.name()
+    fn equivalent(&self, key: &Place) -> bool {
+        match key {
+            Place::Taken(statement) => self.bytes == statement.name(),
+            Place::Empty(_) => false,
+        }
     }
 }

@@ -8,8 +8,7 @@ ghost use Rattle.prepared_statements.specs.Prepared as spec;
 
 use crate::PreparedStatement;
 use crate::kinds::kinds_of;
-use crate::name::Name;
-use indexmap::IndexSet;
+use crate::places::Places;
 use pg_values::{NoMemory, PgText, Refusal};
 use refusals::{no_prepared_statement, prepared_statement_is_there};
 use sql_ast::{NameList, RowStatement};
@@ -19,7 +18,7 @@ use std::rc::Rc;
 /// The prepared statements of a session, in the order in which they were prepared. Their names differ.
 #[derive(Drop)]
 pub struct PreparedList {
-    statements: IndexSet<PreparedStatement>,
+    statements: Places,
 }
 
 impl PreparedList {
@@ -27,14 +26,14 @@ impl PreparedList {
         ensures { listed result ≡ [] }
     {
         PreparedList {
-            statements: IndexSet::new(alloc),
+            statements: Places::new(alloc),
         }
     }
 
     fn has(&self, name: &[u8]) -> bool
         ensures { result ≡ list_any (spec.is_called name.now) (listed self.now) }
     {
-        self.statements.contains(Name { bytes: name })
+        self.statements.has(name)
     }
 
     fn check_new(&self, alloc: Global, name: &[u8]) -> Result<(), Refusal>
@@ -50,7 +49,7 @@ impl PreparedList {
         ensures added { OnOk result (listed self.new ≡ (if list_any (spec.is_called statement.name) (listed self.old) then listed self.old else listed self.old ++ seen statement ∷ [])) }
         ensures kept { OnErr result (listed self.new ≡ listed self.old) }
     {
-        let _is_new = self.statements.insert(statement)?;
+        self.statements.add(statement)?;
         Ok(())
     }
 
@@ -76,7 +75,7 @@ impl PreparedList {
     pub fn find(&self, alloc: Global, name: &[u8]) -> Result<&PreparedStatement, Refusal>
         ensures { IsAnswerBy (λ s. seen s.now) result (spec.found (listed self.now) name.now) }
     {
-        match self.statements.get(Name { bytes: name }) {
+        match self.statements.find(name) {
             Some(statement) => Ok(statement),
             None => Err(Refusal::Sql(no_prepared_statement(alloc, name)?)),
         }
@@ -87,7 +86,7 @@ impl PreparedList {
         ensures answer { IsAnswerBy (λ _. listed self.new) result (spec.deallocated (listed self.old) name.now) }
         ensures kept { OnErr result (listed self.new ≡ listed self.old) }
     {
-        if self.statements.shift_remove(Name { bytes: name }) {
+        if self.statements.remove(name)? {
             return Ok(());
         }
         Err(Refusal::Sql(no_prepared_statement(alloc, name)?))
