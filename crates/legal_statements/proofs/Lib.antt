@@ -18,3 +18,10 @@ pub mod Storing
 pub mod There
 pub mod Trees
 pub mod Whole
+mod Alike
+mod Behind
+pub mod FreshTrees
+mod ShownMarks
+mod Moved
+mod Once
+mod Ways

@@ -7,3 +7,5 @@ pub mod Locked
 pub mod Rows
 pub mod Stays
 pub mod Tables
+pub mod TakenBack
+pub mod ShownPartitions

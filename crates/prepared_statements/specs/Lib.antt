@@ -3,3 +3,7 @@ pub mod Names
 pub mod Numbers
 pub mod Prepared
 pub mod Taken
+pub mod Firsts
+pub mod Parameters
+pub mod ParameterPlaces
+pub mod StatementPlaces

@@ -13,7 +13,7 @@ use Rattle.expression_binder.specs.Firsts.{or_first, unless}
 use Rattle.expression_binder.specs.Kinds.{count_faults}
 use Rattle.expression_binder.specs.Scopes.{Item}
 use Rattle.sql_binder.specs.Inserts.{count_of}
-use Rattle.parameter_kinds.specs.Parameters.{bound_parameters}
+use Rattle.prepared_statements.specs.Parameters.{bound_parameters}
 use Rattle.table_binder.specs.Columns.{type_fault, kind_or_text}
 use Rattle.prepared_statements.specs.Numbers.{greatest}
 

@@ -9,10 +9,10 @@ ghost use Rattle.prepared_statements.specs.Kept.{seen};
 ghost use Rattle.prepared_statements.specs.Names.{name_of};
 ghost use Rattle.prepared_statements.specs.Prepared as spec;
 
+use crate::bind_parameters;
 use crate::kinds::declared_of;
 use crate::numbers::greatest_number;
 use expression_binder::{Param, ScopeItem, check_count};
-use parameter_kinds::bind_parameters;
 use pg_values::{Kind, NoMemory, PgText, Refusal};
 use refusals::left_out;
 use sql_ast::{ExprList, RowStatement};

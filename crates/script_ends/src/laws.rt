@@ -1,5 +1,5 @@
 ghost use Rattle.std.specs.Prelude.{◌≡◌, ℕ, Bool, List, Some};
-ghost use Rattle.load_script.specs.LoadScript.{load};
+ghost use Rattle.script_program.specs.LoadScript.{load};
 ghost use Rattle.run_ends.specs.Ending.{ComesToEnd};
 ghost use Rattle.spec_reader.specs.Specs.{IsScript};
 ghost use Rattle.spec_reader.specs.declared.spec.Spec.{Spec};
@@ -14,8 +14,8 @@ ghost use Rattle.script_ends.specs.Outcomes.{HasOutcome, HasOutcomeBehind};
 ghost use Rattle.step_engine.specs.Run as run;
 
 use pg_values::{Sink, Source};
+use run_ends::runs_of_statements_come_to_an_end;
 use script_program::Ended;
-use statement_bounds::runs_of_statements_come_to_an_end;
 
 /// The run of every script comes to its end, with trails and without.
 pub fn scripts_come_to_an_end()

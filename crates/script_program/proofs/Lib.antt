@@ -13,3 +13,6 @@ pub mod StepNumbers
 pub mod Texts
 pub mod WorkLaws
 pub mod Works
+pub mod WordLaws
+pub mod DrawLaws
+pub mod PermutationLaws

@@ -1,6 +1,6 @@
 -- What is counted of the script of a seed comes to one outcome.
 use Rattle.std.proofs.Common.{◌≡◌, inl, inr, ℕ, List, [], ◌++◌, sym, ap, subst, ◌∙◌, append-nil}
-use Rattle.load_script.specs.LoadScript.{load}
+use Rattle.script_program.specs.LoadScript.{load}
 use Rattle.schedule.specs.Counts.{none}
 use Rattle.schedule.specs.Rules.{Rules}
 use Rattle.schedule.specs.Run.{World, Anything}

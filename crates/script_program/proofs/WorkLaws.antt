@@ -1,9 +1,9 @@
 -- What words ask to do, by what they ask for.
 use Rattle.std.proofs.Common.{Option, Err, ap, option_map}
-use Rattle.command_line.specs.CommandLine.{IsRead}
-use Rattle.command_line.specs.declared.asked.Asked.{Asked}
-use Rattle.command_line.specs.declared.asked.WordsRefused.{WordsRefused}
-use Rattle.command_line.specs.declared.asked.WordsRefused.TheVariants.{Usage, NoMemory}
+use Rattle.script_program.specs.CommandLine.{IsRead}
+use Rattle.script_program.specs.declared.asked.Asked.{Asked}
+use Rattle.script_program.specs.declared.asked.WordsRefused.{WordsRefused}
+use Rattle.script_program.specs.declared.asked.WordsRefused.TheVariants.{Usage, NoMemory}
 use Rattle.script_program.specs.Work.{work_of}
 use Rattle.script_program.specs.declared.work.Work.{Work}
 

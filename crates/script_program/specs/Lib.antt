@@ -8,3 +8,7 @@ pub mod Steps
 pub mod Tasks
 pub mod Texts
 pub mod Work
+pub mod CommandLine
+pub mod Draws
+pub mod LoadScript
+pub mod Loads

@@ -1,6 +1,6 @@
 -- What comes of the script of a seed: it is run, and its run is counted and not printed (partscript's own).
 use Rattle.std.specs.Prelude.{◌≡◌, ℕ, List, [], ◌++◌, codes, decimal}
-use Rattle.load_script.specs.LoadScript.{load}
+use Rattle.script_program.specs.LoadScript.{load}
 use Rattle.schedule.specs.Counts.{IsCounted}
 use Rattle.schedule.specs.Rules.{Rules}
 use Rattle.schedule.specs.Run.{World}

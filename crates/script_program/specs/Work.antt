@@ -1,9 +1,9 @@
 -- What a call does, by what its words ask for.
 use Rattle.std.specs.Prelude.{ℕ, Bool, true, false, List, Option, option_map}
-use Rattle.command_line.specs.CommandLine.{asked_by}
-use Rattle.command_line.specs.declared.asked.Asked.{Asked}
-use Rattle.command_line.specs.declared.asked.Mode.{Mode}
-use Rattle.command_line.specs.declared.asked.Mode.TheVariants as modes
+use Rattle.script_program.specs.CommandLine.{asked_by}
+use Rattle.script_program.specs.declared.asked.Asked.{Asked}
+use Rattle.script_program.specs.declared.asked.Mode.{Mode}
+use Rattle.script_program.specs.declared.asked.Mode.TheVariants as modes
 use Rattle.script_program.specs.declared.work.Work.{Work}
 use Rattle.script_program.specs.declared.work.Work.TheVariants.{Run, Check, Load}
 

@@ -7,6 +7,7 @@ ghost use Rattle.script_program.specs.Texts.{OpensEachAs};
 ghost use Rattle.script_program.specs.Work as works;
 ghost use Rattle.script_program.specs.Work.{work_by};
 
+use crate::WordsRefused;
 use crate::check::check_text;
 use crate::ended::Ended;
 use crate::input::{ReadRefused, read_whole};
@@ -15,7 +16,6 @@ use crate::output::answer;
 use crate::script_run::run_text;
 use crate::seeded::run_seed;
 use crate::work::{Work, read_work, reads_input};
-use command_line::WordsRefused;
 use pg_values::{Sink, Source};
 use std::alloc::Global;
 

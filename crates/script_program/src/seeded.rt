@@ -1,7 +1,7 @@
 //! The load of a seed: its script is run, and the run is counted.
 
 ghost use Rattle.std.specs.Prelude.{◌≡◌, ◌+◌, ◌++◌, IfOk, OnOk, false, length};
-ghost use Rattle.load_script.specs.LoadScript.{load};
+ghost use Rattle.script_program.specs.LoadScript.{load};
 ghost use Rattle.spec_reader.specs.declared.spec.Spec.{Spec};
 ghost use Rattle.script_program.specs.Outcomes.{AtOnce, Ends};
 ghost use Rattle.script_program.specs.Seeded as spec;
@@ -9,12 +9,12 @@ ghost use Rattle.script_program.specs.Seeded.{RunCounts, SeedEnds};
 ghost use Rattle.script_program.specs.Texts.{OpensAs};
 
 use crate::ended::Ended;
+use crate::gen_script;
 use crate::line::{fault_line, setup_line, teardown_line};
 use crate::opener::Opener;
 use crate::output::answer;
 use crate::script_run::refuse;
 use crate::whole::count_script;
-use load_script::gen_script;
 use pg_values::{NoMemory, Sink};
 use schedule::{Counts, Database, RunEnd, Tally};
 use spec_reader::{Spec, read_spec};

@@ -1,8 +1,8 @@
 ghost use Rattle.std.specs.Prelude.{◌≡◌, map, string_bytes};
-ghost use Rattle.command_line.specs.CommandLine.{IsRead};
+ghost use Rattle.script_program.specs.CommandLine.{IsRead};
 ghost use Rattle.script_program.specs.Work as spec;
 
-use command_line::{Asked, Mode, WordsRefused, read_words};
+use crate::{Asked, Mode, WordsRefused, read_words};
 use std::alloc::Global;
 
 /// What a call does.

@@ -1,7 +1,7 @@
 use crate::tables::{columns_of, item_of, items_of};
 use expression_binder::{Given, ScopeItem};
-use parameter_kinds::kinds_in_statement;
 use pg_values::{Kind, NoMemory, PgText};
+use prepared_statements::kinds_in_statement;
 use refusals::kind_word;
 use sql_ast::RowStatement;
 use std::alloc::Global;

@@ -21,7 +21,7 @@
 //! behind it, and each operator stands before its operands.
 //!
 //! That the first rule that is broken is told is proved in `sql_binder` and `table_binder`, and that
-//! the first place counts in `parameter_kinds`. Here the rules are seen: `stdin` has the statements, and `stdout` what
+//! the first place counts in `prepared_statements`. Here the rules are seen: `stdin` has the statements, and `stdout` what
 //! was worked out by hand from them.
 
 use crate::bound::{write_change, write_insert, write_params, write_select};

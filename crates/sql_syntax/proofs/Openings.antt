@@ -15,10 +15,10 @@ use Rattle.sql_expressions.proofs.ListLaws.{other_name_law, plain_name_law}
 use Rattle.sql_syntax.specs.CommandGrammar as commands
 use Rattle.sql_ast.specs.Commands.{resets}
 use Rattle.sql_syntax.proofs.CommandLaws.{setting_value_law, create_law, drop_law, alter_law, lock_law, deallocate_law}
-use Rattle.sql_queries.specs.Grammar as queries
+use Rattle.sql_syntax.specs.QueryGrammar as queries
 use Rattle.sql_ast.specs.Queries.{selects, rows}
-use Rattle.sql_queries.proofs.QueryLaws.{select_law, insert_law, delete_law, prepare_law, execute_law, explain_law}
-use Rattle.sql_queries.proofs.SettingLaws.{settings_law}
+use Rattle.sql_syntax.proofs.QueryLaws.{select_law, insert_law, delete_law, prepare_law, execute_law, explain_law}
+use Rattle.sql_syntax.proofs.SettingLaws.{settings_law}
 use Rattle.sql_syntax.specs.Grammar.{begins_statement, statement}
 use Rattle.sql_ast.specs.Statements as trees
 use Rattle.sql_syntax.proofs.Starts.{Starts, starts_value, starts_either, starts_both, starts_one, starts_behind, restart}

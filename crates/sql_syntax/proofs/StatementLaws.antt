@@ -11,7 +11,7 @@ use Rattle.sql_tokens.specs.Classes.{a}
 use Rattle.sql_expressions.proofs.RoomLaws.{Opens, if_room_law}
 use Rattle.sql_expressions.proofs.WordLaws.{sample, apart, within}
 use Rattle.sql_syntax.proofs.CommandLaws.{after_command, command_law}
-use Rattle.sql_queries.proofs.QueryLaws.{after_query, query_law}
+use Rattle.sql_syntax.proofs.QueryLaws.{after_query, query_law}
 use Rattle.sql_syntax.specs.Grammar.{begins_statement, begins_query, statement, some_statement, maybe_statement, first_of, join, block}
 use Rattle.sql_ast.specs.Statements.{StatementTree, commands, queries}
 use Rattle.sql_syntax.specs.declared.parse.TheConstants.{MOST_STATEMENTS}

@@ -8,7 +8,7 @@ use Rattle.sql_expressions.specs.Levels.{if_room}
 use Rattle.sql_tokens.specs.Classes.{a}
 use Rattle.sql_syntax.specs.CommandGrammar.{command, begins_command}
 use Rattle.grammar.specs.Words.{one_of}
-use Rattle.sql_queries.specs.Grammar.{query, begins_row_statement}
+use Rattle.sql_syntax.specs.QueryGrammar.{query, begins_row_statement}
 use Rattle.sql_ast.specs.Statements.{StatementTree, commands, queries}
 use Rattle.sql_syntax.specs.declared.parse.TheConstants.{MOST_STATEMENTS}
 

@@ -10,3 +10,6 @@ pub mod Lock
 pub mod Setting
 pub mod Transaction
 pub mod Views
+pub mod QueryGrammar
+pub mod Items
+pub mod QueryViews

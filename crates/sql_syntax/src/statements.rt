@@ -7,12 +7,11 @@ ghost use Rattle.sql_syntax.specs.Grammar as grammar;
 ghost use Rattle.sql_ast.specs.Statements.{statement_tree};
 ghost use Rattle.sql_syntax.specs.Views.{maybe_tree};
 
-use crate::{MOST_STATEMENTS, command, command_comes};
+use crate::{MOST_STATEMENTS, command, command_comes, query};
 use grammar::{Part, Refused, comes, word};
 use pg_values::NoMemory;
 use sql_ast::Statement;
 use sql_expressions::one_of_comes;
-use sql_queries::query;
 use sql_tokens::{Token, TokenKind};
 use std::alloc::Global;
 

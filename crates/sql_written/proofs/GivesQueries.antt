@@ -13,9 +13,9 @@ use Rattle.grammar.specs.Words.{◌>>◌, means}
 use Rattle.sql_tokens.specs.Classes.{a}
 use Rattle.sql_ast.specs.declared.leaf.Operator.TheVariants.{Equal}
 use Rattle.sql_expressions.specs.Lists.{plain_name}
-use Rattle.sql_queries.specs.Grammar as grammar
+use Rattle.sql_syntax.specs.QueryGrammar as grammar
 use Rattle.sql_ast.specs.Queries.{Item, columns_of, one_column, Joined, Key, Setting, selected, RowTree, selects, inserts, updates, deletes, QueryTree, rows, prepares, explains_select}
-use Rattle.sql_queries.specs.Items.{all_of_them, item, maybe_alias, output, starred}
+use Rattle.sql_syntax.specs.Items.{all_of_them, item, maybe_alias, output, starred}
 use Rattle.sql_ast.specs.declared.named_table.NamedTable.{NamedTable}
 use Rattle.sql_written.specs.Marks.{Mark, blank}
 use Rattle.sql_written.specs.Spelling as spelled

@@ -11,9 +11,9 @@ use Rattle.sql_ast.specs.Expressions.{Tree, Trees, no_more, and_more, listed as 
 use Rattle.grammar.specs.Words.{◌>>◌, maybe}
 use Rattle.sql_tokens.specs.Classes.{a}
 use Rattle.sql_expressions.specs.Lists.{commas, plain_name}
-use Rattle.sql_queries.specs.Grammar as grammar
+use Rattle.sql_syntax.specs.QueryGrammar as grammar
 use Rattle.sql_ast.specs.Queries.{Item, all_columns, columns_of, one_column, Joined, Key, Setting, SelectTree, selected, RowTree, selects, inserts, updates, deletes, QueryTree, rows, prepares, executes, explains_select, explains_execute}
-use Rattle.sql_queries.specs.Items.{all_of_them, item, maybe_alias, starred}
+use Rattle.sql_syntax.specs.Items.{all_of_them, item, maybe_alias, starred}
 use Rattle.sql_ast.specs.declared.named_table.NamedTable.{NamedTable}
 use Rattle.sql_written.specs.Marks.{Mark, blank, bytes_of, text_of}
 use Rattle.sql_written.specs.Spelling as spelled

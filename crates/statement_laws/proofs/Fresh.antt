@@ -10,8 +10,8 @@ use Rattle.history.specs.Snapshots.{TakenSnapshot}
 use Rattle.row_router.specs.Histories.{tree_of}
 use Rattle.row_router.specs.Trees.{TableTree, leaves}
 use Rattle.soundness.specs.Worlds.{IsMade}
-use Rattle.detach_laws.specs.Laws.{TreesAreFresh}
-use Rattle.detach_laws.proofs.Fresh.{legal_is_fresh}
+use Rattle.legal_statements.specs.ShownPartitions.{TreesAreFresh}
+use Rattle.legal_statements.proofs.FreshTrees.{legal_is_fresh}
 use Rattle.cond_logic.specs.Tables.{Leaf}
 use Rattle.cond_logic.specs.Trees.{CondTree}
 use Rattle.plan_tree.specs.Conjuncts.{pool, asked_at, asked_later}

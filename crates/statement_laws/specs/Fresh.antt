@@ -6,7 +6,7 @@ use Rattle.pg_values.specs.declared.value.Value.{Value}
 use Rattle.history.specs.History.{History, catalogue_events}
 use Rattle.history.specs.Snapshots.{TakenSnapshot}
 use Rattle.soundness.specs.Worlds.{IsMade}
-use Rattle.detach_laws.specs.Laws.{IsShownBelow}
+use Rattle.legal_statements.specs.ShownPartitions.{IsShownBelow}
 use Rattle.cond_logic.specs.Asked.{SelectMeant}
 use Rattle.plan_tree.specs.Plans.{plan_by}
 use Rattle.plan_tree.specs.declared.planning.Planning.{Planning}

@@ -7,7 +7,7 @@ use Rattle.grammar.specs.declared.refused.Refused.{Refused}
 use Rattle.grammar.specs.declared.refused.Refused.TheVariants.{Syntax, Limit}
 use Rattle.grammar.proofs.Laws.{Law}
 use Rattle.grammar.proofs.WholeLaws.{parses, reads_text}
-use Rattle.sql_queries.proofs.Splits.{Split, same, longer, shorter, split}
+use Rattle.sql_syntax.proofs.Splits.{Split, same, longer, shorter, split}
 
 abbrev Within : {T A : Type 0} → (List T → A → Type 0) → (List T → A → Type 0) → Type 0
 Within {T} {A} P B = (x : List T) (a : A) → P x a → B x a

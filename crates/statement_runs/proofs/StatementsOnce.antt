@@ -30,10 +30,10 @@ use Rattle.table_statements.specs.Tables.{created}
 use Rattle.table_statements.specs.Partitions.{partitioned}
 use Rattle.table_statements.specs.Drops.{dropped}
 use Rattle.table_statements.specs.Locked.{locked}
-use Rattle.detach_statement.specs.Concurrent.{behind_nobody, by_rest, detach_of, first_stage, later_stages}
-use Rattle.detach_statement.specs.Detached.{detached}
-use Rattle.detach_statement.specs.Finalized.{finalized}
-use Rattle.attach_statement.specs.Attached.{attached}
+use Rattle.alter_table.specs.Concurrent.{behind_nobody, by_rest, detach_of, first_stage, later_stages}
+use Rattle.alter_table.specs.Detached.{detached}
+use Rattle.alter_table.specs.Finalized.{finalized}
+use Rattle.alter_table.specs.Attached.{attached}
 use Rattle.statement_runs.specs.Attempted.{answer_text, attempted, changed_text, command_attempted, execute_attempted, execution_explained, inserted_text, is_trailed, listing, plan_of_execution, planning_of, query_attempted, row_attempted, table}
 use Rattle.statement_runs.specs.Roles.{command_committed, has_committed}
 use Rattle.statement_runs.specs.declared.options.Options.{Options}

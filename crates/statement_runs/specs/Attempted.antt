@@ -32,10 +32,10 @@ use Rattle.table_statements.specs.Tables.{created}
 use Rattle.table_statements.specs.Partitions.{partitioned}
 use Rattle.table_statements.specs.Drops.{dropped}
 use Rattle.table_statements.specs.Locked.{locked}
-use Rattle.detach_statement.specs.Detached.{detached}
-use Rattle.detach_statement.specs.Concurrent.{detached_concurrently}
-use Rattle.detach_statement.specs.Finalized.{finalized}
-use Rattle.attach_statement.specs.Attached.{attached}
+use Rattle.alter_table.specs.Detached.{detached}
+use Rattle.alter_table.specs.Concurrent.{detached_concurrently}
+use Rattle.alter_table.specs.Finalized.{finalized}
+use Rattle.alter_table.specs.Attached.{attached}
 use Rattle.expression_binder.specs.declared.scope.Param.{Param}
 use Rattle.prepared_statements.specs.Prepared.{Prepared, prepared, deallocated, first_word}
 use Rattle.statement_runs.specs.Executions.{Execution, executed, explained_by}

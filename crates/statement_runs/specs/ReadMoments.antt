@@ -12,8 +12,8 @@ use Rattle.statement_laws.specs.Fresh.{ScansAreFresh}
 use Rattle.statement_laws.proofs.Fresh.{good_scans}
 use Rattle.statement_laws.specs.Whole.{WholeStatementsArePlain}
 use Rattle.statement_laws.proofs.Whole.{good_whole}
-use Rattle.detach_laws.specs.Laws.{IsFresh}
-use Rattle.detach_laws.proofs.Fresh.{legal_is_fresh}
+use Rattle.legal_statements.specs.ShownPartitions.{IsFresh}
+use Rattle.legal_statements.proofs.FreshTrees.{legal_is_fresh}
 
 -- SELECT, UPDATE and DELETE do over the leaves that they read what they would do over all
 pub record StatementsArePlain (h : History) : Type 0 where

@@ -14,8 +14,8 @@ use Rattle.expression_binder.specs.declared.scope.Param.{Param}
 use Rattle.prepared_statements.specs.Prepared.{Prepared}
 use Rattle.select_statement.specs.Cancels.{cancelled}
 use Rattle.table_statements.specs.Places.{lock_misplaced}
-use Rattle.detach_statement.specs.Concurrent.{detach_of}
-use Rattle.detach_statement.specs.Places.{detach_misplaced}
+use Rattle.alter_table.specs.Concurrent.{detach_of}
+use Rattle.alter_table.specs.Misplaced.{detach_misplaced}
 use Rattle.statement_runs.specs.Changes as settings
 use Rattle.statement_runs.specs.Executions.{Execution, executed_over}
 

@@ -18,8 +18,7 @@ use crate::prepared_attempts::{
 };
 use crate::room::check_room;
 use crate::row_attempts::{attempt_explain, attempt_rows, is_trailed};
-use attach_statement::attach;
-use detach_statement::{detach, detach_concurrently, finalize};
+use alter_table::{attach, detach, detach_concurrently, finalize};
 use plan_tree::Planning;
 use prepared_statements::PreparedList;
 use schedule::Tally;

@@ -9,7 +9,7 @@ ghost use Rattle.statement_runs.specs.Roles as roles;
 
 use crate::executing::executed_bare;
 use crate::{reset, set};
-use detach_statement::detach_misplaced;
+use alter_table::detach_misplaced;
 use expression_binder::Param;
 use pg_values::{Fault, NoMemory, Refusal};
 use prepared_statements::PreparedList;

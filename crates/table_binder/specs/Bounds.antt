@@ -3,11 +3,11 @@ use Rattle.std.specs.Prelude.{map, Result}
 use Rattle.pg_values.specs.declared.fault.Fault.{Fault}
 use Rattle.bound_forms.specs.declared.level.Level.{Level}
 use Rattle.bound_forms.specs.declared.partition_bound.Bound.{Bound as MeantBound}
-use Rattle.bound_checks.specs.declared.raw_bound.RawEdge.{RawEdge}
-use Rattle.bound_checks.specs.declared.raw_bound.RawEdge.TheVariants.{Min, At, Max}
-use Rattle.bound_checks.specs.declared.raw_bound.RawBound.{RawBound}
-use Rattle.bound_checks.specs.declared.raw_bound.RawBound.TheVariants as raw
-use Rattle.bound_checks.specs.Checks.{checked}
+use Rattle.table_binder.specs.declared.raw_bound.RawEdge.{RawEdge}
+use Rattle.table_binder.specs.declared.raw_bound.RawEdge.TheVariants.{Min, At, Max}
+use Rattle.table_binder.specs.declared.raw_bound.RawBound.{RawBound}
+use Rattle.table_binder.specs.declared.raw_bound.RawBound.TheVariants as raw
+use Rattle.table_binder.specs.Checks.{checked}
 use Rattle.sql_ast.specs.Commands.{Edge, min, max, at, Bound, range, listed, hash, other}
 use Rattle.table_binder.specs.Values.{raw_value, raw_values}
 

@@ -3,3 +3,7 @@ pub mod Columns
 pub mod Names
 pub mod Partitionings
 pub mod Values
+pub mod Checks
+pub mod CheckedBounds
+pub mod ListedValues
+pub mod RawBounds

@@ -8,8 +8,8 @@ use Rattle.refusals.specs.Refusals.{left_out}
 use Rattle.sql_ast.specs.declared.leaf.Leaf.{Leaf}
 use Rattle.sql_ast.specs.declared.leaf.Leaf.TheVariants.{Text, Parameter, Column, ColumnOf}
 use Rattle.sql_ast.specs.Expressions.{Tree, Trees, no_more, and_more, leaf, call, call_of_all, negated, binary, in_list, between, is_null, inverted, all_of, any_of}
-use Rattle.bound_checks.specs.declared.raw_bound.RawValue.{RawValue}
-use Rattle.bound_checks.specs.declared.raw_bound.RawValue.TheVariants.{Literal, Given, Faulty}
+use Rattle.table_binder.specs.declared.raw_bound.RawValue.{RawValue}
+use Rattle.table_binder.specs.declared.raw_bound.RawValue.TheVariants.{Literal, Given, Faulty}
 use Rattle.expression_binder.specs.Constants.{constant}
 use Rattle.expression_binder.specs.Kinds.{kind_alone}
 use Rattle.expression_binder.specs.Operands.{operand_faults, typed}

@@ -7,7 +7,7 @@ ghost use Rattle.table_binder.specs.Bounds as spec;
 ghost use Rattle.table_binder.specs.Values as values_spec;
 
 use crate::values::raw_value;
-use bound_checks::{RawBound, RawEdge, RawEdges, RawValues, check_bound};
+use crate::{RawBound, RawEdge, RawEdges, RawValues, check_bound};
 use bound_forms::{Bound, Level};
 use pg_values::{NoMemory, Refusal};
 use sql_ast::{BoundText, EdgeText, Expr};

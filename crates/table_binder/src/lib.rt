@@ -8,14 +8,26 @@
 //! Each answer is a list of faults and a meaning that is total: the first fault, else the meaning. An
 //! expression of a bound is a constant. It may name nothing: a column or a parameter is left out by its
 //! name, where it stands among the other faults of its expression. Its fault is that of its value, so a
-//! bound of the wrong form or count is refused for that first (`part_bounds`).
+//! bound of the wrong form or count is refused for that first.
+//!
+//! That is judged by `check_bound`, of a bound as it is written, with expressions, MINVALUE and MAXVALUE
+//! (`RawBound`). It gives the bound of its level that is meant, with values of the key columns' kinds, or the
+//! first of the rules of `specs/Checks.antt` that it breaks.
 #![tactic(auto)]
 
 mod bounds;
+mod check;
+mod checked_bounds;
 mod columns;
+mod listed_value;
 mod partitioning;
+mod raw_bound;
+mod raw_value;
 mod values;
 
 pub use bounds::bind_bound;
+pub use check::check_bound;
+pub use checked_bounds::level_bounds_are_checked;
 pub use columns::{bind_columns, kind_named};
 pub use partitioning::bind_partitioning;
+pub use raw_bound::{RawBound, RawEdge, RawEdges, RawValue, RawValues};

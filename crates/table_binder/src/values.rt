@@ -4,7 +4,7 @@ ghost use Rattle.sql_ast.specs.Expressions.{tree, listed};
 ghost use Rattle.expression_binder.specs.Firsts.{or_first};
 ghost use Rattle.table_binder.specs.Values as spec;
 
-use bound_checks::RawValue;
+use crate::RawValue;
 use expression_binder::{Names, bind_constant, check_own, condition_names, kind_alone, typed_of};
 use pg_values::{Fault, NoMemory, Refusal, Value};
 use refusals::left_out;

@@ -2,7 +2,7 @@ use Rattle.std.proofs.Common.{◌≡◌, true, refl, ap, ◌∙◌, arith}
 use Rattle.sql_ast.specs.declared.expr.Expr.{Binary, Between, In}
 use Rattle.sql_ast.specs.Expressions.{tree, trees, listed, binary, in_list, between}
 use Rattle.expression_binder.proofs.Trees.{part_less, binary_is, between_is}
-use Rattle.parameter_kinds.proofs.Operands.{in_is}
+use Rattle.prepared_statements.proofs.Operands.{in_is}
 use Rattle.prepared_statements.specs.Numbers.{greatest_of, numbers, all_numbers}
 use Rattle.prepared_statements.proofs.Greatest.{of_two, of_three, part_passed}
 use Rattle.prepared_statements.proofs.numbers.+number.Goals as goal

@@ -1,7 +1,7 @@
 use Rattle.std.proofs.Common.{None, refl, sym, subst, replicate}
 use Rattle.sessions.specs.Sessions.{State, new_session}
 use Rattle.run_ends.specs.SessionRank.{points_of}
-use Rattle.run_ends.proofs.Whole.{new_opened}
+use Rattle.run_ends.proofs.SessionsLower.{new_opened}
 use Rattle.run_ends.proofs.executors.sessions_come_to_an_end.Goals as goal
 
 pub returns : goal.returns

@@ -1,5 +1,5 @@
 use Rattle.std.proofs.Common.{false, refl}
-use Rattle.load_script.specs.LoadScript.{load}
+use Rattle.script_program.specs.LoadScript.{load}
 use Rattle.schedule.specs.Counts.{counts_of, none}
 use Rattle.schedule.proofs.Runs.{over_anything}
 use Rattle.script_program.specs.Program.{Made}

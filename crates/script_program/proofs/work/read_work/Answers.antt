@@ -1,5 +1,5 @@
 use Rattle.std.proofs.Common.{Some, ap, map, option_map, string_bytes, sym, ◌∙◌}
-use Rattle.command_line.specs.CommandLine.{asked_by}
+use Rattle.script_program.specs.CommandLine.{asked_by}
 use Rattle.script_program.specs.Work.{work_of}
 use Rattle.script_program.proofs.WorkLaws.{nothing_asked}
 use Rattle.script_program.proofs.work.read_work.Goals as goal

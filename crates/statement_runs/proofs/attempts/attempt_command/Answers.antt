@@ -13,10 +13,10 @@ use Rattle.table_statements.specs.Tables.{created}
 use Rattle.table_statements.specs.Partitions.{partitioned}
 use Rattle.table_statements.specs.Drops.{dropped}
 use Rattle.table_statements.specs.Locked.{locked}
-use Rattle.detach_statement.specs.Concurrent.{detached_concurrently}
-use Rattle.detach_statement.specs.Detached.{detached}
-use Rattle.detach_statement.specs.Finalized.{finalized}
-use Rattle.attach_statement.specs.Attached.{attached}
+use Rattle.alter_table.specs.Concurrent.{detached_concurrently}
+use Rattle.alter_table.specs.Detached.{detached}
+use Rattle.alter_table.specs.Finalized.{finalized}
+use Rattle.alter_table.specs.Attached.{attached}
 use Rattle.prepared_statements.specs.Kept.{listed}
 use Rattle.prepared_statements.specs.Prepared.{deallocated}
 use Rattle.statement_runs.specs.Attempted.{command_attempted, listing, omitted}

@@ -1,4 +1,4 @@
-use Rattle.run_ends.proofs.Whole.{sessions_lower}
+use Rattle.run_ends.proofs.SessionsLower.{sessions_lower}
 use Rattle.run_ends.proofs.executors.OverRanked.lowers.Goals as goal
 
 pub returns : goal.returns

@@ -1,0 +1,11 @@
+pub mod Columns
+pub mod Places
+pub mod Attached
+pub mod AskedOfAttached
+pub mod Skipped
+pub mod Detached
+pub mod Misplaced
+pub mod Kept
+pub mod Concurrent
+pub mod Finalized
+pub mod AskedOfDetached

@@ -1,6 +1,0 @@
-mod Attaching
-mod Columned
-mod Locked
-mod Placed
-mod Scanned
-mod LeftOut

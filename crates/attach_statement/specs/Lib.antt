@@ -1,5 +1,0 @@
-pub mod Columns
-pub mod Places
-pub mod Attached
-pub mod Asked
-pub mod Skipped

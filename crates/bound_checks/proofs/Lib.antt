@@ -1,8 +1,0 @@
-pub mod CheckLaws
-pub mod CheckedLaws
-pub mod LevelGiven
-pub mod ListedLaws
-pub mod OnceLaws
-pub mod RangeLaws
-pub mod RawLaws
-pub mod WordLaws

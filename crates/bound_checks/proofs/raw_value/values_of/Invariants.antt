@@ -1,7 +1,0 @@
-use Rattle.std.proofs.Common.{◌≡◌, take}
-use Rattle.bound_checks.specs.ListedValues.{values_in}
-use Rattle.bound_checks.proofs.raw_value.values_of.Given as goal
-
--- the values so far are copied
-abbrev pub invariant-loop-key : goal.invariant-loop-key
-invariant-loop-key l = l.values ≡ values_in (take l.key-index l.keys)

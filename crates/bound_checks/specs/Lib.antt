@@ -1,4 +1,0 @@
-pub mod Checks
-pub mod Laws
-pub mod ListedValues
-pub mod RawBounds

@@ -1,7 +1,0 @@
-mod Alike
-mod Behind
-pub mod Fresh
-mod Marks
-mod Moved
-mod Once
-mod Ways

@@ -1,6 +1,0 @@
-use Rattle.std.proofs.lemmas.Result.{IfOk-weaker}
-use Rattle.load_script.proofs.DrawLaws.{first, last}
-use Rattle.load_script.proofs.load.Load.write_drawn_between.Goals as goal
-
-pub returns : goal.returns
-returns c = IfOk-weaker c.write-2.result _ _ (λ _ h. first _ c.in_ok-write.ensures (first _ c.in_ok-write_drawn.ensures (last h))) c.write-2.ensures

@@ -1,8 +1,0 @@
-use Rattle.load_script.specs.Draws.{for_each}
-use Rattle.load_script.specs.Loads.{Goes}
-use Rattle.load_script.specs.LoadScript.{step_line}
-use Rattle.load_script.proofs.load.Load.write_session.Given as goal
-
--- so many of its steps are written
-abbrev pub invariant-loop-step : goal.invariant-loop-step
-invariant-loop-step l = Goes (for_each 1 l.step (step_line l.session)) l.initial.self l.self

@@ -1,4 +1,0 @@
-pub mod Firsts
-pub mod Loops
-pub mod Operands
-pub mod Wanting

@@ -1,9 +1,0 @@
-use Rattle.std.proofs.Common.{◌≡◌, map, drop}
-use Rattle.sql_ast.specs.Expressions.{trees}
-use Rattle.parameter_kinds.specs.Firsts.{noted}
-use Rattle.parameter_kinds.specs.Statements.{kind_named, row_places}
-use Rattle.parameter_kinds.proofs.changes.note_named_rows.Given as goal
-
--- what is noted, and what the rest gives
-abbrev pub invariant-loop-row : goal.invariant-loop-row
-invariant-loop-row l = noted l.firsts (row_places l.givens (map (kind_named l.columns) l.names) (map trees (drop l.row-index l.rows))) ≡ noted l.fn.firsts (row_places l.givens (map (kind_named l.columns) l.names) (map trees l.rows))

@@ -1,4 +1,0 @@
-pub mod Firsts
-pub mod Parameters
-pub mod Places
-pub mod Statements

@@ -1,9 +1,0 @@
-use Rattle.sql_tokens.specs.declared.kind.TokenKind.TheVariants as word
-use Rattle.sql_expressions.specs.Grammar.{expression}
-use Rattle.sql_queries.specs.Grammar.{more_settings, unaliased}
-use Rattle.sql_queries.proofs.StepCode.{in_steps}
-use Rattle.sql_queries.proofs.changes.column_set.Goals as goal
-
-pub returns : goal.returns
-returns c =
-    in_steps unaliased word.Equal (expression c.args.text.now) (more_settings c.args.text.now c.args.column) _ c.column_in_steps.result c.args.tokens.now c.column_in_steps.ensures

@@ -1,4 +1,0 @@
-use Rattle.statement_bounds.proofs.laws.runs_of_statements_come_to_an_end.Goals as goal
-
-pub returns : goal.returns
-returns c o n ps few known = c.statements_come_to_an_end.ensures o n ps few known

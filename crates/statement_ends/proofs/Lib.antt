@@ -1,9 +1,0 @@
-pub mod Sums
-pub mod Waiting
-pub mod Cutting
-pub mod Shrinking
-pub mod Kept
-pub mod Ran
-pub mod Once
-pub mod Whole
-pub mod Asked

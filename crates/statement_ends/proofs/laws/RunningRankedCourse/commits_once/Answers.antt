@@ -1,5 +1,0 @@
-use Rattle.statement_ends.proofs.Once.{course_once}
-use Rattle.statement_ends.proofs.laws.RunningRankedCourse.commits_once.Goals as goal
-
-pub returns : goal.returns
-returns g c n = course_once g.A.AskingStatements.tables n
