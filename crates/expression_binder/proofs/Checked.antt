@@ -5,13 +5,18 @@ use Rattle.pg_values.specs.declared.fault.Refusal.{Refusal}
 use Rattle.pg_values.specs.Refusals.{IsAnswer}
 use Rattle.expression_binder.specs.Firsts.{or_first}
 use Rattle.sql_ast.specs.declared.expr.Expr.{Expr}
+use Rattle.sql_ast.specs.declared.leaf.Operator.{Operator}
+use Rattle.sql_ast.specs.declared.leaf.Operator.TheVariants as op
 use Rattle.sql_ast.specs.Expressions.{Tree, leaf, call, call_of_all, negated, binary, in_list, between, is_null, inverted, all_of, any_of, tree, listed}
-use Rattle.expression_binder.specs.Operands.{suit, all_typed, operand_faults, operands_faults, inner_faults, own_faults}
+use Rattle.expression_binder.specs.Operands.{suit, all_typed, operand_faults, operands_faults, inner_faults, own_faults, typed, zero_typed}
+use Rattle.expression_binder.specs.Kinds.{join_faults, joined}
 use Rattle.cond_logic.specs.Trees.{CondTree}
 use Rattle.cond_logic.specs.Trees as conds
 use Rattle.expression_binder.specs.Meanings.{constant_faults, meaning}
 use Rattle.expression_binder.specs.Scopes.{Scope}
-use Rattle.expression_binder.proofs.Firsts.{none_found, here, behind, value_of}
+use Rattle.expression_binder.specs.declared.scope.Allowed.{Allowed}
+use Rattle.expression_binder.specs.declared.typed.Typed.{Typed}
+use Rattle.expression_binder.proofs.Firsts.{none_found, here, behind, first_still, value_of}
 
 -- the faults of an operand are those of its parts, and behind them those of the whole
 pub operand_split : (s : Scope) (t : Tree) → operand_faults s t ≡ inner_faults s t ++ own_faults s t
@@ -30,12 +35,47 @@ operand_split s (all_of ts) = refl
 operand_split s (any_of ts) = refl
 
 -- a fault of a part is the first
-pub inner_first : (s : Scope) (t : Tree) (e : Refusal) → IsAnswer {T = Unit {0}} (Err e) (or_first (inner_faults s t) tt) → IsAnswer {T = Unit {0}} (Err e) (or_first (operand_faults s t) tt)
-inner_first s t e h = subst (λ fs. IsAnswer {T = Unit {0}} (Err e) (or_first fs tt)) (sym (operand_split s t)) (here e (inner_faults s t) (own_faults s t) tt tt h)
+pub inner_first : (s : Scope) (t : Tree) (v : Typed) (e : Refusal) → IsAnswer {T = Unit {0}} (Err e) (or_first (inner_faults s t) tt) → IsAnswer {T = Typed} (Err e) (or_first (operand_faults s t) v)
+inner_first s t v e h = subst (λ fs. IsAnswer {T = Typed} (Err e) (or_first fs v)) (sym (operand_split s t)) (here e (inner_faults s t) (own_faults s t) tt v h)
 
--- and parts that have none leave the whole to decide
-pub own_decides : (s : Scope) (t : Tree) (u : Unit {0}) (r : Result (Unit {0}) Refusal) → or_first (inner_faults s t) tt ≡ Ok u → IsAnswer r (or_first (own_faults s t) tt) → IsAnswer r (or_first (operand_faults s t) tt)
-own_decides s t u r p h = subst (λ fs. IsAnswer r (or_first fs tt)) (sym (operand_split s t)) (behind r (inner_faults s t) (own_faults s t) tt (none_found (inner_faults s t) tt u p) h)
+-- parts that have none leave the whole to decide
+pub own_first : (s : Scope) (t : Tree) (v : Typed) (u : Unit {0}) (e : Refusal) → or_first (inner_faults s t) tt ≡ Ok u → IsAnswer {T = Unit {0}} (Err e) (or_first (own_faults s t) tt)
+    → IsAnswer {T = Typed} (Err e) (or_first (operand_faults s t) v)
+own_first s t v u e p h =
+    let own : IsAnswer {T = Typed} (Err e) (or_first (own_faults s t) v) = first_still e (own_faults s t) tt v h in
+    subst (λ fs. IsAnswer {T = Typed} (Err e) (or_first fs v)) (sym (operand_split s t)) (behind (Err e) (inner_faults s t) (own_faults s t) v (none_found (inner_faults s t) tt u p) own)
+
+-- behind sides that have none an operator decides
+pub negated_decides : (s : Scope) (x t : Tree) (a : Allowed) (z v : Typed) (r : Result Typed Refusal) → a ≡ s.allowed → z ≡ zero_typed → t ≡ negated x → or_first (operand_faults s x) (typed s x) ≡ Ok v
+    → IsAnswer r (or_first (join_faults a op.Subtract z v) (joined op.Subtract z v)) → IsAnswer r (or_first (operand_faults s t) (typed s t))
+negated_decides s x t a z v r allowed zero e h k =
+    let own = value_of (operand_faults s x) (typed s x) v h in
+    let faults : operand_faults s (negated x) ≡ join_faults s.allowed op.Subtract zero_typed v =
+    ap (λ (fs : List Fault). fs ++ join_faults s.allowed op.Subtract zero_typed (typed s x)) own.0 ∙ ap (λ (u : Typed). join_faults s.allowed op.Subtract zero_typed u) own.1 in
+    let kind : typed s (negated x) ≡ joined op.Subtract zero_typed v = ap (λ (u : Typed). joined op.Subtract zero_typed u) own.1 in
+    let in_scope : IsAnswer r (or_first (join_faults s.allowed op.Subtract z v) (joined op.Subtract z v)) =
+    subst (λ (b : Allowed). IsAnswer r (or_first (join_faults b op.Subtract z v) (joined op.Subtract z v))) allowed k in
+    let decided : IsAnswer r (or_first (join_faults s.allowed op.Subtract zero_typed v) (joined op.Subtract zero_typed v)) =
+    subst (λ (u : Typed). IsAnswer r (or_first (join_faults s.allowed op.Subtract u v) (joined op.Subtract u v))) zero in_scope in
+    let all : operand_faults s t ≡ join_faults s.allowed op.Subtract zero_typed v = ap (operand_faults s) e ∙ faults in
+    let whole : typed s t ≡ joined op.Subtract zero_typed v = ap (typed s) e ∙ kind in
+    rw (all, whole) decided
+
+pub binary_decides : (s : Scope) (o : Operator) (x y t : Tree) (a : Allowed) (v w : Typed) (r : Result Typed Refusal) → a ≡ s.allowed → t ≡ binary o x y → or_first (operand_faults s x) (typed s x) ≡ Ok v → or_first (operand_faults s y) (typed s y) ≡ Ok w
+    → IsAnswer r (or_first (join_faults a o v w) (joined o v w)) → IsAnswer r (or_first (operand_faults s t) (typed s t))
+binary_decides s o x y t a v w r allowed e h i k =
+    let left = value_of (operand_faults s x) (typed s x) v h in
+    let right = value_of (operand_faults s y) (typed s y) w i in
+    let faults : operand_faults s (binary o x y) ≡ join_faults s.allowed o v w =
+    ap (λ (fs : List Fault). fs ++ (operand_faults s y ++ join_faults s.allowed o (typed s x) (typed s y))) left.0
+    ∙ (ap (λ (fs : List Fault). fs ++ join_faults s.allowed o (typed s x) (typed s y)) right.0
+    ∙ (ap (λ (u : Typed). join_faults s.allowed o u (typed s y)) left.1 ∙ ap (λ (u : Typed). join_faults s.allowed o v u) right.1)) in
+    let kind : typed s (binary o x y) ≡ joined o v w = ap (λ (u : Typed). joined o u (typed s y)) left.1 ∙ ap (λ (u : Typed). joined o v u) right.1 in
+    let decided : IsAnswer r (or_first (join_faults s.allowed o v w) (joined o v w)) =
+    subst (λ (b : Allowed). IsAnswer r (or_first (join_faults b o v w) (joined o v w))) allowed k in
+    let all : operand_faults s t ≡ join_faults s.allowed o v w = ap (operand_faults s) e ∙ faults in
+    let whole : typed s t ≡ joined o v w = ap (typed s) e ∙ kind in
+    rw (all, whole) decided
 
 pub not_bound : (s : Scope) (t x : Tree) (c made : CondTree) → t ≡ inverted x → or_first (constant_faults s x) (meaning s x) ≡ Ok c → made ≡ conds.inverted c
     → or_first (constant_faults s t) (meaning s t) ≡ Ok made

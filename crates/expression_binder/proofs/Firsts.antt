@@ -1,5 +1,5 @@
 -- The first fault of several rules.
-use Rattle.std.proofs.Common.{◌≡◌, List, [], ◌∷◌, ◌++◌, Result, Ok, Err, refl, ap}
+use Rattle.std.proofs.Common.{◌≡◌, List, [], ◌∷◌, ◌++◌, Result, Ok, Err, refl, sym, ap}
 use Rattle.pg_values.specs.declared.fault.Fault.{Fault}
 use Rattle.pg_values.specs.declared.fault.Refusal.{Refusal}
 use Rattle.pg_values.specs.declared.fault.Refusal.TheVariants.{Sql, NoMemory}
@@ -16,6 +16,17 @@ pub here : {T U : Type 0} (e : Refusal) (fs rest : List Fault) (u : U) (v : T) �
 here (Sql f) [] rest u v h = cc
 here (Sql f) (g ∷ fs) rest u v h = let same : g ≡ f = cc in ap Err same
 here NoMemory fs rest u v h = tt
+
+-- and that of other answers, too
+pub first_still : {T U : Type 0} (e : Refusal) (fs : List Fault) (u : U) (v : T) → IsAnswer {T = U} (Err e) (or_first fs u) → IsAnswer {T = T} (Err e) (or_first fs v)
+first_still (Sql f) [] u v h = cc
+first_still (Sql f) (g ∷ fs) u v h = let same : g ≡ f = cc in ap Err same
+first_still NoMemory fs u v h = tt
+
+-- and where there is none another value is the answer
+pub value_still : {T U : Type 0} (fs : List Fault) (u w : U) (v x : T) → or_first fs u ≡ Ok w → x ≡ v → or_first fs v ≡ Ok x
+value_still [] u w v x h e = ap Ok (sym e)
+value_still (f ∷ fs) u w v x h e = cc
 
 -- where the first rules are kept the rest decides
 pub behind : {T : Type 0} (r : Result T Refusal) (fs rest : List Fault) (v : T) → fs ≡ [] → IsAnswer r (or_first rest v) → IsAnswer r (or_first (fs ++ rest) v)

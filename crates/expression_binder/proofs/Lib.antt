@@ -1,4 +1,5 @@
 pub mod Checked
 pub mod Firsts
 pub mod Lists
+pub mod Places
 pub mod Trees

@@ -215,6 +215,20 @@ pub(crate) fn check_join(
     check_arithmetic(alloc, operator, left.given, right.given)
 }
 
+/// What an operator makes of its sides, where they may be joined.
+pub(crate) fn check_joined(
+    alloc: Global,
+    allowed: Allowed,
+    operator: Operator,
+    left: Typed,
+    right: Typed,
+) -> Result<Typed, Refusal>
+    ensures { IsAnswer result (or_first (kinds.join_faults allowed operator left right) (kinds.joined operator left right)) }
+{
+    check_join(alloc, allowed, operator, left, right)?;
+    Ok(joined(operator, left, right))
+}
+
 /// The two operands may be compared.
 #[tactic(auto, unfolding(crate::specs::Kinds::comparison_faults))]
 pub(crate) fn check_comparison(

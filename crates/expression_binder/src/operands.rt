@@ -9,7 +9,7 @@ ghost use Rattle.expression_binder.specs.Operands as operands;
 ghost use Rattle.expression_binder.specs.Scopes as scopes;
 ghost use Rattle.expression_binder.specs.Lent.{option_now};
 
-use crate::kinds::{check_join, fixed, joined, number_kind};
+use crate::kinds::{check_join, check_joined, fixed, joined, number_kind};
 use crate::naming::{item_called, look_up, look_up_in, param};
 use crate::{Given, Lookup, Names, Param, ScopeItem, Typed};
 use pg_values::{Kind, Refusal};
@@ -136,7 +136,7 @@ fn varying(given: Given) -> Typed
     }
 }
 
-fn leaf_typed(names: &Names<'_>, leaf: &Leaf) -> Typed
+pub(crate) fn leaf_typed(names: &Names<'_>, leaf: &Leaf) -> Typed
     ensures { result ≡ operands.leaf_typed names.now leaf.now }
 {
     match leaf {
@@ -260,7 +260,7 @@ pub(crate) fn zero_typed() -> Typed
     fixed(Given::Of(Kind::Int4))
 }
 
-fn call_typed(function: &[u8]) -> Typed
+pub(crate) fn call_typed(function: &[u8]) -> Typed
     ensures { result ≡ operands.call_typed function.now }
 {
     if is_pid(function) {
@@ -375,11 +375,40 @@ fn check_inner(alloc: Global, names: &Names<'_>, e: &Expr) -> Result<(), Refusal
     }
 }
 
+// The first fault of names and kinds in an operand, else its kind, for which each part is gone over once.
+#[cycle(check)]
+fn check_typed(alloc: Global, names: &Names<'_>, e: &Expr) -> Result<Typed, Refusal>
+    ensures { IsAnswer result (or_first (operands.operand_faults names.now (tree e.now)) (operands.typed names.now (tree e.now))) }
+{
+    match e {
+        Expr::Negated(x) => {
+            let right = check_typed(alloc, names, x)?;
+            check_joined(
+                alloc,
+                names.allowed(),
+                Operator::Subtract,
+                zero_typed(),
+                right,
+            )
+        }
+        Expr::Binary(operator, x, y) => {
+            let left = check_typed(alloc, names, x)?;
+            let right = check_typed(alloc, names, y)?;
+            check_joined(alloc, names.allowed(), *operator, left, right)
+        }
+        _ => {
+            check_inner(alloc, names, e)?;
+            check_own(alloc, names, e)?;
+            Ok(typed_of(names, e))
+        }
+    }
+}
+
 /// The first fault of names and kinds in an operand: 42P01, 42702, 42703, 42883, 42P02 or 0A000.
 #[cycle(check)]
 pub fn check_operand(alloc: Global, names: &Names<'_>, e: &Expr) -> Result<(), Refusal>
     ensures { IsAnswer result (or_first (operands.operand_faults names.now (tree e.now)) tt) }
 {
-    check_inner(alloc, names, e)?;
-    check_own(alloc, names, e)
+    check_typed(alloc, names, e)?;
+    Ok(())
 }

@@ -5,13 +5,16 @@ use Rattle.expression_binder.proofs.Trees.{weight, weights}
 use Rattle.expression_binder.proofs.operands.+check.Given as goal
 
 abbrev pub decreases-check_inner : goal.decreases-check_inner
-decreases-check_inner l = 3 * weight (tree l.e.now)
+decreases-check_inner l = 4 * weight (tree l.e.now)
+
+abbrev pub decreases-check_typed : goal.decreases-check_typed
+decreases-check_typed l = 4 * weight (tree l.e.now) + 1
 
 abbrev pub decreases-check_operand : goal.decreases-check_operand
-decreases-check_operand l = 3 * weight (tree l.e.now) + 1
+decreases-check_operand l = 4 * weight (tree l.e.now) + 2
 
 abbrev pub decreases-check_operands : goal.decreases-check_operands
-decreases-check_operands l = 3 * weights (listed (map tree l.parts.now)) + 2
+decreases-check_operands l = 4 * weights (listed (map tree l.parts.now)) + 3
 
 -- no part so far has a fault
 abbrev pub invariant-check_operands-loop-part : goal.invariant-check_operands-loop-part
