@@ -54,7 +54,7 @@ fn default_tables(
     ensures { IfOk result (λ tables. (h : History) → TableStands txs.now h → CatalogueStands catalog.now h →
         tables.items ≡ family_of h session (below.default_of h session parent.number)) }
 {
-    match default_of(alloc, catalog, txs, parent, session)? {
+    match default_of(catalog, txs, parent, session) {
         None => Ok(Vec::new(alloc)),
         Some(table) => tables_from(alloc, catalog, txs, table, session),
     }

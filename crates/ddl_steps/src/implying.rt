@@ -58,9 +58,6 @@ pub fn is_implied(
     ensures { IfOk result (λ is. (h : History) → TableStands txs.now h → CatalogueStands catalog.now h →
         is ≡ list_any (checks_spec.implies level.now bound.now) (map kept_of (checks_of h session table.number))) }
 {
-    let path = catalog.path(alloc, txs, table, session)?;
-    match path.first() {
-        None => Ok(false),
-        Some(part) => Ok(has_implying(part.checks.as_slice(), level, bound)),
-    }
+    let checks = catalog.kept_checks(alloc, txs, table, session)?;
+    Ok(has_implying(checks.as_slice(), level, bound))
 }

@@ -1,6 +1,6 @@
 -- The entries below a table that are present for a session.
-use Rattle.std.proofs.Common.{◌≡◌, ℕ, suc, ◌+◌, ◌<◌, arith, ap, refl, sym, ◌∙◌, Bool, true, false, List, [], ◌∷◌, ◌++◌, length, drop, drop-cons, add-one, append-nil, map, filter, get_or, inl, inr}
-use Rattle.std.specs.List.{All}
+use Rattle.std.proofs.Common.{◌≡◌, ℕ, zero, suc, ◌+◌, ◌-◌, ◌<◌, ◌≤◌, arith, ap, refl, sym, subst, ◌∙◌, Bool, true, false, List, [], ◌∷◌, ◌++◌, Option, Some, None, length, drop, drop-cons, add-one, append-nil, map, filter, get_or, inl, inr}
+use Rattle.std.specs.List.{All, last_or}
 use Rattle.std.proofs.lemmas.Bool.{cases_Bool}
 use Rattle.std.proofs.lemmas.Grind.{common_steps}
 use Rattle.std.proofs.lemmas.List.{get_or-map, length-map}
@@ -45,6 +45,32 @@ skip_passed q entries done more numbers i x all lt is test put h =
     let split : passed q entries (n ∷ drop (i + 1) numbers) ≡ passed q entries (drop (i + 1) numbers) = rw no refl in
     let here : passed q entries (drop i numbers) ≡ passed q entries (drop (i + 1) numbers) = ap (passed q entries) (next_at numbers i lt) ∙ split in
     ap (λ l. l ++ passed q entries (drop (i + 1) numbers)) put ∙ ap (λ es. done ++ es) (sym here) ∙ h
+
+-- ---- what a loop over numbers from behind finds
+
+-- none behind a place passes
+abbrev pub NoneBehind : (StoredEntry → Bool) → List StoredEntry → List ℕ → ℕ → Type 0
+NoneBehind q entries numbers i = passed q entries (drop i numbers) ≡ []
+
+last_from : (q : StoredEntry → Bool) (entries : List StoredEntry) (numbers : List ℕ) (i : ℕ) (o : Option Entry) → i < length numbers → q (stored_at entries (get_or numbers i 0)) ≡ true → NoneBehind q entries numbers (suc i) → Some (stored_at entries (get_or numbers i 0)).entry ≡ last_or o (passed q entries numbers)
+last_from q entries [] i o lt test none = absurd (omega (arith, lt))
+last_from q entries (n ∷ ns) zero o lt test none =
+    let split : passed q entries (n ∷ ns) ≡ (stored_at entries n).entry ∷ passed q entries ns = rw test refl in
+    ap (last_or (Some (stored_at entries n).entry)) (sym none) ∙ ap (last_or o) (sym split)
+last_from q entries (n ∷ ns) (suc i) o lt test none = elim (cases_Bool (q (stored_at entries n))) [
+  | inl y ↦
+      let split : passed q entries (n ∷ ns) ≡ (stored_at entries n).entry ∷ passed q entries ns = rw y refl in
+      last_from q entries ns i (Some (stored_at entries n).entry) (omega (arith, lt)) test none ∙ ap (last_or o) (sym split)
+  | inr f ↦
+      let split : passed q entries (n ∷ ns) ≡ passed q entries ns = rw f refl in
+      last_from q entries ns i o (omega (arith, lt)) test none ∙ ap (last_or o) (sym split)
+]
+
+pub last_found : (q : StoredEntry → Bool) (entries : List StoredEntry) (numbers : List ℕ) (i : ℕ) (x : StoredEntry) → 0 < i → i ≤ length numbers → x ≡ stored_at entries (get_or numbers (i - 1) 0) → q x ≡ true → NoneBehind q entries numbers i → Some x.entry ≡ last_or None (passed q entries numbers)
+last_found q entries numbers i x some within is test none =
+    let next : i ≡ suc (i - 1) = omega (arith, some) in
+    ap (λ (y : StoredEntry). Some y.entry) is
+    ∙ last_from q entries numbers (i - 1) None (omega (arith, some, within)) (ap q (sym is) ∙ test) (subst (NoneBehind q entries numbers) next none)
 
 -- ---- below a table
 

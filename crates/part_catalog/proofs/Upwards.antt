@@ -1,5 +1,5 @@
 -- A path as it is made, one table after the other, and the place of a table on it.
-use Rattle.std.proofs.Common.{◌≡◌, ℕ, suc, ◌+◌, ◌-◌, ◌<◌, ◌≤◌, ◌++◌, append_assoc, arith, ap, refl, sym, subst, ◌∙◌, Bool, true, false, List, [], ◌∷◌, Option, Some, None, IfSome, filter, map, length, drop, drop-cons, add-one, get_or, inl, inr}
+use Rattle.std.proofs.Common.{◌≡◌, ℕ, zero, suc, ◌+◌, ◌-◌, ◌<◌, ◌≤◌, ◌++◌, append_assoc, arith, ap, refl, sym, subst, ◌∙◌, Bool, true, false, List, [], ◌∷◌, Option, Some, None, IfSome, filter, map, length, drop, drop-cons, add-one, get_or, inl, inr}
 use Rattle.std.specs.List.{All, find, position_or_len}
 use Rattle.std.proofs.lemmas.Bool.{cases_Bool}
 use Rattle.std.proofs.lemmas.Grind.{common_steps, elements}
@@ -11,6 +11,7 @@ use Rattle.bound_forms.specs.declared.level.Level.{Level}
 use Rattle.history.specs.declared.catalogue.Table.{Table}
 use Rattle.history.specs.declared.catalogue.TableShape.TheVariants.{Leaf as LeafShape, Level as LevelShape}
 use Rattle.history.specs.declared.catalogue.Entry.{Entry}
+use Rattle.history.specs.declared.catalogue.Check.{Check}
 use Rattle.history.specs.declared.catalogue.KeptCheck.{KeptCheck}
 use Rattle.history.specs.Transactions.{IsSound}
 use Rattle.history.specs.Catalogue.{tables_made, entries_added}
@@ -19,16 +20,16 @@ use Rattle.history.specs.Places.{table_at}
 use Rattle.history.specs.Presence.{entries_present, checks_of, is_check_of}
 use Rattle.row_router.specs.declared.path_part.Place.{Place}
 use Rattle.row_router.specs.declared.path_part.PathPart.{PathPart}
-use Rattle.row_router.specs.Histories.{above, bound_of, children, is_entry, is_over, kept_of, parent_in, part_of, place_among, place_of, upwards}
+use Rattle.row_router.specs.Histories.{above, bound_of, children, is_entry, is_over, kept_of, parent_in, part_of, path_of, place_among, place_of, upwards}
 use Rattle.row_router.proofs.Order.{all_kept, all_children}
 use Rattle.part_catalog.specs.declared.stored.StoredTable.{StoredTable}
 use Rattle.part_catalog.specs.declared.stored.StoredEntry.{StoredEntry}
 use Rattle.part_catalog.specs.Kept.{KeptCatalogue, IsBetween, table_in, no_entry, with_place, by_place}
 use Rattle.part_catalog.specs.Stands.{CatalogueStands, present_by, is_flagged}
-use Rattle.part_catalog.specs.Answers.{parent_told, number_told}
+use Rattle.part_catalog.specs.Answers.{parent_told, number_told, without_place}
 use Rattle.part_catalog.proofs.Grown.{past_end}
 use Rattle.part_catalog.proofs.Told.{present_flagged}
-use Rattle.part_catalog.proofs.Paths.{parent_number, upwards_step}
+use Rattle.part_catalog.proofs.Paths.{parent_number, upwards_none, upwards_step}
 use Rattle.part_catalog.proofs.Places.{own_number, length_by_place, at_by_place, all_by_place}
 use Rattle.part_catalog.proofs.Renumbered.{renumbered, IsToldApart, place_anew, above_anew, parent_anew}
 use Rattle.part_catalog.proofs.Rising.{kept_rise, numbers_tell}
@@ -146,3 +147,23 @@ path_step n part up done x t o whole lt here next h =
     ∙ ap (λ y. y ∷ upwards (8 - (n + 1)) part up (parent_in (up t))) (sym here)
     ∙ ap (λ q. x ∷ upwards (8 - (n + 1)) part up q) (sym next) in
     append_assoc done (x ∷ []) rest ∙ ap (λ l. done ++ l) (sym e) ∙ h
+
+-- ---- a path with its CHECKs alone
+
+abbrev pub checked_part : History → (session : ℕ) → ℕ → PathPart
+checked_part h s t = without_place (part_of (tables_made (catalogue_events h)) (entries_present h s) (checks_of h s) t)
+
+upwards_map : (f : PathPart → PathPart) (n : ℕ) (part : ℕ → PathPart) (up : ℕ → Option Entry) (o : Option ℕ) → upwards n (λ t. f (part t)) up o ≡ map f (upwards n part up o)
+upwards_map f n part up None = upwards_none n (λ t. f (part t)) up ∙ ap (map f) (sym (upwards_none n part up))
+upwards_map f zero part up (Some t) = refl
+upwards_map f (suc n) part up (Some t) = ap (λ ps. f (part t) ∷ ps) (upwards_map f n part up (parent_in (up t)))
+
+pub path_checked : (h : History) (s t : ℕ) → upwards 8 (checked_part h s) (above (entries_present h s)) (Some t) ≡ map without_place (path_of h s t)
+unfolding Rattle.row_router.specs.Histories.path_of
+path_checked h s t = upwards_map without_place 8 (part_of (tables_made (catalogue_events h)) (entries_present h s) (checks_of h s)) (above (entries_present h s)) (Some t)
+
+pub checks_told : (kept : KeptCatalogue) (h : History) (s t : ℕ) (found : List KeptCheck) (all : List Check) → CatalogueStands kept h → all ≡ kept.checks → found ≡ map kept_of (filter (is_check_of (tx_events h) s t) all) → found ≡ map kept_of (checks_of h s t)
+checks_told kept h s t found all st same is = is ∙ ap (λ cs. map kept_of (filter (is_check_of (tx_events h) s t) cs)) (same ∙ st.checks)
+
+pub checked_made : (h : History) (s : ℕ) (t : TableNo) (found : List KeptCheck) → found ≡ map kept_of (checks_of h s t.number) → path_part t found None ≡ checked_part h s t.number
+checked_made h s t found is = ap (λ ks. path_part t ks None) is

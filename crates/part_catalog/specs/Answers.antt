@@ -8,6 +8,7 @@ use Rattle.history.specs.History.{History, tx_events, catalogue_events}
 use Rattle.history.specs.Presence.{is_present, is_pending, entries_present}
 use Rattle.tx_table.specs.Kept.{KeptTable}
 use Rattle.tx_table.specs.Stands.{TableStands}
+use Rattle.row_router.specs.declared.path_part.PathPart.{PathPart}
 use Rattle.row_router.specs.Siblings.{AreSiblings}
 use Rattle.part_catalog.specs.Kept.{KeptCatalogue}
 use Rattle.part_catalog.specs.Stands.{CatalogueStands}
@@ -30,6 +31,10 @@ number_told (Some t) = Some t.number
 abbrev pub child_told : Option Entry → Option TableNo
 child_told None = None
 child_told (Some e) = Some e.child
+
+-- a table of a path with its CHECKs alone
+abbrev pub without_place : PathPart → PathPart
+without_place part = record { table = part.table; checks = part.checks; place = None }
 
 -- the entry below a table that is pending for the session
 abbrev pub is_pending_below : History → (session table : ℕ) → Entry → Bool

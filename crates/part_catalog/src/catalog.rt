@@ -1,4 +1,5 @@
-ghost use Rattle.std.specs.Prelude.{◌≡◌, ◌<◌, ◌≤◌, ℕ, [], map, Some, IfOk, IfSome, length, option_map, slice_index_or};
+ghost use Rattle.std.specs.Prelude.{◌≡◌, ◌<◌, ◌≤◌, ℕ, [], map, Some, None, IfOk, IfSome, length, option_copied, option_map, slice_index_or};
+ghost use Rattle.std.specs.List.{last_or};
 ghost use Rattle.history.specs.Transactions.{IsPast};
 ghost use Rattle.history.specs.Snapshots.{TakenSnapshot};
 ghost use Rattle.history.specs.Catalogue.{tables_made, entries_added, checks_kept};
@@ -178,6 +179,16 @@ impl Catalog {
         let numbers = self.below[table.number as usize].numbers();
         let found = see::present_among(alloc, &self.entries, numbers, txs, session)?;
         Ok(found)
+    }
+
+    /// The last of the entries below a table, in plain order, that is present for the session.
+    pub fn last_partition(&self, txs: &TxTable, table: TableNo, session: u32) -> Option<&Entry>
+        requires { table.number < length self.now.tables }
+        ensures { (h : History) → TableStands txs.now h → CatalogueStands self.now h →
+            option_copied result ≡ last_or None (children (entries_present h session) table.number) }
+    {
+        let numbers = self.below[table.number as usize].numbers();
+        see::last_present(&self.entries, numbers, txs, session)
     }
 
     /// The table of which a table is a partition.

@@ -8,19 +8,20 @@ ghost use Rattle.history.specs.Snapshots.{TakenSnapshot};
 ghost use Rattle.history.specs.History.{History, tx_events};
 ghost use Rattle.tx_table.specs.Stands.{TableStands, SnapshotStands};
 ghost use Rattle.row_router.specs.Seen.{seen};
-ghost use Rattle.row_router.specs.Histories.{tree_within, tree_of};
+ghost use Rattle.row_router.specs.Histories.{bound_of, children, tree_within, tree_of};
 ghost use Rattle.part_catalog.specs.Answers.{AreTogether};
 ghost use Rattle.part_catalog.specs.Kept.{table_in, by_place};
 ghost use Rattle.part_catalog.specs.Stands.{CatalogueStands, is_flagged};
-ghost use Rattle.part_catalog.specs.Groves.{IsGrove, IsGrownFrom, grown_for};
+ghost use Rattle.part_catalog.specs.Groves.{IsGrove, IsLevel, IsGrownFrom, grown_for};
 
 use crate::below::Below;
-use crate::grow::grow;
+use crate::grow::{grow, set_below};
 use crate::stored::{StoredEntry, StoredTable};
 use crate::{Catalog, see};
 use history::TableShape;
-use pg_values::{NoMemory, TableNo};
-use row_router::Tree;
+use part_bounds::{BoundSet, copy_set};
+use pg_values::{NoMemory, TableNo, ValueKey};
+use row_router::{Shape, Tree};
 use std::alloc::Global;
 use tx_table::{Snapshot, TxTable};
 
@@ -86,6 +87,30 @@ pub fn grow_or_share(
             Ok(grown)
         }
     }
+}
+
+/// The bounds of the shown entries below a table: those of its kept tree are shared, else a set is made.
+pub fn share_set(
+    alloc: Global,
+    _tables: &[StoredTable],
+    entries: &[StoredEntry],
+    below: &Below,
+    flags: &[bool],
+    table: TableNo,
+    kept: &[KeptTree],
+) -> Result<BoundSet<ValueKey>, NoMemory>
+    requires level { IsLevel entries.now below.now flags.now table.number }
+    requires kept { All (IsGrownFrom (map table_in _tables.now) (by_place entries.now)) kept.now }
+    ensures { IfOk result (λ set. set ≡ map bound_of (filter (is_flagged flags.now) (children (by_place entries.now) table.number))) }
+{
+    if let Some(tree) = find_kept(kept, table, flags) {
+        if let Shape::Level(_, bounds, _) = &tree.shape {
+            let shared = copy_set(bounds)?;
+            return Ok(shared);
+        }
+    }
+    let made = set_below(alloc, entries, below, flags, table)?;
+    Ok(made)
 }
 
 /// No tree is kept any more.

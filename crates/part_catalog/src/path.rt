@@ -1,19 +1,20 @@
 //! The way from a table upwards.
 
-ghost use Rattle.std.specs.Prelude.{◌≡◌, ◌<◌, map, filter, length, IfOk, IfSome, option_map};
+ghost use Rattle.std.specs.Prelude.{◌≡◌, ◌<◌, All, map, filter, length, IfOk, IfSome, option_map};
 ghost use Rattle.std.specs.List.{position_or_len};
 ghost use Rattle.history.specs.History.{History, tx_events};
+ghost use Rattle.history.specs.Presence as presence;
 ghost use Rattle.history.specs.Presence.{is_check_of};
 ghost use Rattle.tx_table.specs.Stands.{TableStands};
 ghost use Rattle.row_router.specs.Histories as spec;
 ghost use Rattle.row_router.specs.Histories.{above, kept_of, path_of};
-ghost use Rattle.part_catalog.specs.Answers.{parent_told, AreTogether};
-ghost use Rattle.part_catalog.specs.Groves.{IsGrove};
+ghost use Rattle.part_catalog.specs.Answers.{parent_told, without_place, AreTogether};
+ghost use Rattle.part_catalog.specs.Groves.{IsGrove, IsGrownFrom};
 ghost use Rattle.part_catalog.specs.Kept.{table_in, by_place, stored_at, with_place};
 ghost use Rattle.part_catalog.specs.Stands.{CatalogueStands, is_flagged, flagged_above, is_number, flagged_number};
 
 use crate::below::Below;
-use crate::grow::set_below;
+use crate::keep::{KeptTree, share_set};
 use crate::stored::{StoredEntry, StoredTable};
 use crate::{Catalog, see};
 use bound_forms::copy_bound;
@@ -54,6 +55,7 @@ impl Catalog {
                 &self.below,
                 &flags,
                 table,
+                &self.trees,
             )?;
             parts.push(PathPart {
                 table,
@@ -63,6 +65,51 @@ impl Catalog {
             next = parent_in(&self.entries, &flags, table);
         }
         Ok(parts)
+    }
+
+    /// A table and those above it, upwards, as far as rows that come from above are asked of them: the CHECKs kept for
+    /// each, and no place. Pending entries count.
+    #[tactic(auto, using(crate::proofs::Upwards::path_checked))]
+    pub fn check_path(
+        &self,
+        alloc: Global,
+        txs: &TxTable,
+        table: TableNo,
+        session: u32,
+    ) -> Result<Vec<PathPart>, NoMemory>
+        ensures { IfOk result (λ parts. (h : History) → TableStands txs.now h → CatalogueStands self.now h →
+            parts.items ≡ map without_place (path_of h session table.number)) }
+    {
+        let mut parts = Vec::new(alloc);
+        let mut next = Some(table);
+        for step in 0..8_usize {
+            let Some(table) = next else {
+                return Ok(parts);
+            };
+            let checks = checks_of(alloc, &self.checks, txs, session, table)?;
+            parts.push(PathPart {
+                table,
+                checks,
+                place: None,
+            })?;
+            next = self.parent_of(txs, session, table);
+        }
+        Ok(parts)
+    }
+
+    /// The CHECKs kept for a table that count for the session.
+    pub fn kept_checks(
+        &self,
+        alloc: Global,
+        txs: &TxTable,
+        table: TableNo,
+        session: u32,
+    ) -> Result<KeptChecks, NoMemory>
+        ensures { IfOk result (λ kept. (h : History) → TableStands txs.now h → CatalogueStands self.now h →
+            kept ≡ map kept_of (presence.checks_of h session table.number)) }
+    {
+        let checks = checks_of(alloc, &self.checks, txs, session, table)?;
+        Ok(checks)
     }
 }
 
@@ -155,8 +202,10 @@ fn place_of(
     below: &[Below],
     flags: &[bool],
     table: TableNo,
+    kept: &[KeptTree],
 ) -> Result<Option<Place>, NoMemory>
-    requires { IsGrove tables.now entries.now below.now flags.now }
+    requires grove { IsGrove tables.now entries.now below.now flags.now }
+    requires kept { All (IsGrownFrom (map table_in tables.now) (by_place entries.now)) kept.now }
     ensures { IfOk result (λ place. place ≡ spec.place_of (map table_in tables.now) (filter (is_flagged flags.now) (by_place entries.now))
         (above (filter (is_flagged flags.now) (by_place entries.now)) table.number)) }
 {
@@ -169,7 +218,7 @@ fn place_of(
         TableShape::Level(level) => {
             let level = copy_level(alloc, level)?;
             let list = &below[parent.number as usize];
-            let bounds = set_below(alloc, entries, list, flags, parent)?;
+            let bounds = share_set(alloc, tables, entries, list, flags, parent, kept)?;
             let child = place_among(list.numbers(), flags, at as u64);
             Ok(Some(Place {
                 level,

@@ -1,6 +1,7 @@
 //! What is there for a session, and what a snapshot is shown.
 
-ghost use Rattle.std.specs.Prelude.{◌≡◌, ◌<◌, ◌==◌, ◌&&◌, ℕ, true, false, All, map, filter, IfOk, length, option_map, option_copied, find, slice_index_or};
+ghost use Rattle.std.specs.Prelude.{◌≡◌, ◌<◌, ◌==◌, ◌&&◌, ℕ, true, false, None, All, map, filter, IfOk, length, option_map, option_copied, find, slice_index_or};
+ghost use Rattle.std.specs.List.{last_or};
 ghost use Rattle.history.specs.Transactions.{IsPast};
 ghost use Rattle.history.specs.Snapshots.{TakenSnapshot};
 ghost use Rattle.history.specs.Catalogue.{standing};
@@ -139,6 +140,26 @@ pub fn present_among<'c>(
         }
     }
     Ok(found)
+}
+
+/// The last entry of these numbers that is present for the session.
+pub fn last_present<'c>(
+    entries: &'c [StoredEntry],
+    numbers: &[u64],
+    txs: &TxTable,
+    session: u32,
+) -> Option<&'c Entry>
+    requires { All (λ k. k < length entries.now) numbers.now }
+    ensures { (h : History) → TableStands txs.now h →
+        option_copied result ≡ last_or None (map entry_in (filter (present_by (tx_events h) session) (map (stored_at entries.now) numbers.now))) }
+{
+    for i in (0..numbers.len()).rev() {
+        let x = &entries[numbers[i] as usize];
+        if is_present(txs, session, x) {
+            return Some(&x.entry);
+        }
+    }
+    None
 }
 
 /// The first present entry by which the table is a partition.

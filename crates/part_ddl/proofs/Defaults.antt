@@ -1,8 +1,8 @@
 -- The default partition of a table, found by its place.
-use Rattle.std.proofs.Common.{◌≡◌, ℕ, suc, ◌+◌, ◌<◌, ◌≤◌, arith, ap, refl, sym, subst, ◌∙◌, true, false, if◌then◌else◌, List, [], ◌∷◌, Some, None, length, map, get_or, inl, inr}
+use Rattle.std.proofs.Common.{◌≡◌, ℕ, suc, ◌+◌, ◌<◌, ◌≤◌, arith, ap, refl, sym, subst, ◌∙◌, true, false, if◌then◌else◌, List, [], ◌∷◌, Option, Some, None, length, map, get_or, inl, inr}
 use Rattle.std.specs.Prelude.{nat_lt}
-use Rattle.std.specs.List.{All, find, position, position_or_len}
-use Rattle.std.specs.Option.{option_map}
+use Rattle.std.specs.List.{All, find, last_or, position, position_or_len}
+use Rattle.std.specs.Option.{option_map, option_to_list}
 use Rattle.std.proofs.lemmas.Bool.{cases_Bool, cases_lt}
 use Rattle.std.proofs.lemmas.Bool.Decides.{nat_tests}
 use Rattle.std.proofs.lemmas.List.{get_or-map, length-map}
@@ -18,15 +18,22 @@ use Rattle.history.specs.Catalogue.{tables_made, entries_added}
 use Rattle.history.specs.History.{History, catalogue_events}
 use Rattle.history.specs.Places.{table_at, TakesBound, Suits, AreCatalogueSound}
 use Rattle.history.specs.Presence.{is_present, entries_present}
+use Rattle.tx_table.specs.Kept.{KeptTable}
+use Rattle.tx_table.specs.Stands.{TableStands}
 use Rattle.row_router.specs.declared.tree.Tree.{Tree}
 use Rattle.row_router.specs.Histories.{bound_of}
-use Rattle.row_router.proofs.Order.{all_children, all_kept, under_children}
+use Rattle.row_router.specs.Siblings.{AreSiblings}
+use Rattle.row_router.proofs.Defaults.{default_last}
+use Rattle.row_router.proofs.Order.{all_children, all_kept, siblings_in_order, under_children}
 use Rattle.row_router.proofs.Suited.{all_suit}
 use Rattle.part_catalog.specs.Found.{made_at}
-use Rattle.part_catalog.specs.Kept.{no_entry}
-use Rattle.part_ddl.specs.Below.{default_of, has_default_bound}
+use Rattle.part_catalog.specs.Answers.{AreTogether}
+use Rattle.part_catalog.specs.Kept.{KeptCatalogue, no_entry}
+use Rattle.part_catalog.specs.Stands.{CatalogueStands}
+use Rattle.part_ddl.specs.Below.{default_among, default_of, has_default_bound}
 use Rattle.part_ddl.specs.Placing.{partitions_of}
 use Rattle.part_ddl.proofs.Kids.{IsTold, tree_table, entry_child}
+use Rattle.part_ddl.proofs.Standing.{same_entries}
 
 -- ---- a place and what stands there
 
@@ -113,3 +120,32 @@ leaf_has_none h s t leaf sound is =
     let suits : All (Suits tables) entries = all_kept (Suits tables) (is_present h s) (entries_added (catalogue_events h)) (all_suit h sound) in
     let none = no_partitions h t leaf (partitions_of h s t) is (all_children (Suits tables) entries t suits) (under_children entries t) in
     sym (ap (λ (es : List Entry). option_map entry_child (find has_default_bound es)) none)
+
+-- ---- as the last entry tells it
+
+-- no other than the last is a default
+abbrev IsLastDefault : List Entry → Type 0
+IsLastDefault es = (i : ℕ) → i < length es → has_default_bound (get_or es i no_entry.entry) ≡ true → suc i ≡ length es
+
+told_by_last : (es : List Entry) → IsLastDefault es → default_among (option_to_list (last_or None es)) ≡ default_among es
+told_by_last [] last = refl
+told_by_last (e ∷ []) last = refl
+told_by_last (e ∷ (x ∷ xs)) last =
+    let rest = told_by_last (x ∷ xs) (λ i lt is. let more : suc (suc i) ≡ suc (length (x ∷ xs)) = last (suc i) (omega (arith, lt)) is in omega (arith, more)) in
+    elim (cases_Bool (is_default e.bound)) [
+      | inl y ↦ let one : 1 ≡ suc (suc (length xs)) = last 0 (omega arith) y in absurd (omega (arith, one))
+      | inr n ↦ rw n rest
+    ]
+
+stands_last : (h : History) (s p : ℕ) → AreSiblings (entries_present h s) → IsLastDefault (partitions_of h s p)
+stands_last h s p siblings = λ i lt is.
+    let es = partitions_of h s p in
+    let count : length (map bound_of es) ≡ length es = length-map es bound_of in
+    let at : get_or (map bound_of es) i no_entry.entry.bound ≡ (get_or es i no_entry.entry).bound = get_or-map bound_of es i no_entry.entry no_entry.entry.bound lt in
+    let end = default_last (map bound_of es) i no_entry.entry.bound (siblings_in_order (entries_present h s) p siblings) (omega (arith, lt, count)) (ap is_default at ∙ is) in
+    omega (arith, end, count)
+
+pub last_tells : (table : KeptTable) (kept : KeptCatalogue) (h : History) (s p : ℕ) (o : Option Entry) → AreTogether table kept s → TableStands table h → CatalogueStands kept h → o ≡ last_or None (partitions_of h s p) → default_among (option_to_list o) ≡ default_of h s p
+last_tells table kept h s p o both txs st is =
+    let siblings : AreSiblings (entries_present h s) = subst AreSiblings (same_entries table kept both.h h both.txs txs both.catalogue st s) both.siblings in
+    ap (λ q. default_among (option_to_list q)) is ∙ told_by_last (partitions_of h s p) (stands_last h s p siblings)

@@ -1,4 +1,4 @@
-ghost use Rattle.std.specs.Prelude.{◌≡◌, ◌<◌, ◌++◌, ℕ, IfOk, OnOk, length, map};
+ghost use Rattle.std.specs.Prelude.{◌≡◌, ◌<◌, ◌++◌, ◌∷◌, [], ℕ, IfOk, OnOk, length, map};
 ghost use Rattle.history.specs.History.{History};
 ghost use Rattle.history.specs.Places.{AreCatalogueSound};
 ghost use Rattle.tx_table.specs.Stands.{TableStands};
@@ -94,20 +94,26 @@ pub(crate) fn default_among(partitions: &[&Entry]) -> Option<TableNo>
     None
 }
 
-/// The default partition of a table for the session.
-pub fn default_of(
-    alloc: Global,
-    catalog: &Catalog,
-    txs: &TxTable,
-    table: TableNo,
-    session: u32,
-) -> Result<Option<TableNo>, NoMemory>
+// The partition of the last entry, where it is the default.
+fn default_told(last: &Entry) -> Option<TableNo>
+    ensures { result ≡ below.default_among (last.now ∷ []) }
+{
+    if matches!(last.bound, Bound::Default) {
+        Some(last.child)
+    } else {
+        None
+    }
+}
+
+/// The default partition of a table for the session: it stands last among those below the table.
+pub fn default_of(catalog: &Catalog, txs: &TxTable, table: TableNo, session: u32) -> Option<TableNo>
     requires known { table.number < length catalog.now.tables }
     requires siblings { AreTogether txs.now catalog.now session }
-    ensures { IfOk result (λ default. (h : History) → TableStands txs.now h → CatalogueStands catalog.now h →
-        default ≡ below.default_of h session table.number) }
+    ensures { (h : History) → TableStands txs.now h → CatalogueStands catalog.now h →
+        result ≡ below.default_of h session table.number }
 {
-    let partitions = catalog.partitions(alloc, txs, table, session)?;
-    let default = default_among(&partitions);
-    Ok(default)
+    match catalog.last_partition(txs, table, session) {
+        Some(last) => default_told(last),
+        None => None,
+    }
 }

@@ -30,19 +30,18 @@ use tx_table::TxTable;
 
 // The default partition beside a table with that parent.
 fn default_beside(
-    alloc: Global,
     catalog: &Catalog,
     txs: &TxTable,
     parent: Option<TableNo>,
     session: u32,
-) -> Result<Option<TableNo>, NoMemory>
+) -> Option<TableNo>
     requires known { IfSome parent (λ p. p.number < length catalog.now.tables) }
     requires siblings { AreTogether txs.now catalog.now session }
-    ensures { IfOk result (λ default. (h : History) → TableStands txs.now h → CatalogueStands catalog.now h → default ≡ drops.default_beside h session parent) }
+    ensures { (h : History) → TableStands txs.now h → CatalogueStands catalog.now h → result ≡ drops.default_beside h session parent }
 {
     match parent {
-        Some(parent) => default_of(alloc, catalog, txs, parent, session),
-        None => Ok(None),
+        Some(parent) => default_of(catalog, txs, parent, session),
+        None => None,
     }
 }
 
@@ -71,7 +70,7 @@ fn tables_to_lock(
     ensures { IfOk result (λ tables. (h : History) → TableStands txs.now h → CatalogueStands catalog.now h → tables.items ≡ to_lock h session table.number) }
 {
     let parent = catalog.parent_of(txs, session, table);
-    let default = default_beside(alloc, catalog, txs, parent, session)?;
+    let default = default_beside(catalog, txs, parent, session);
     let from = tables_from(alloc, catalog, txs, table, session)?;
     let mut tables = Vec::new(alloc);
     push_if_some(&mut tables, parent)?;

@@ -155,7 +155,7 @@ fn judge_beside(
 {
     trees_are_together();
     let Stores { txs, catalog, .. } = stores;
-    match default_of(alloc, catalog, txs, parent, caller.session)? {
+    match default_of(catalog, txs, parent, caller.session) {
         None => Ok(SessionSet::empty()),
         Some(_) => {
             let tree = catalog.ddl_tree(alloc, txs, parent, caller.session)?;

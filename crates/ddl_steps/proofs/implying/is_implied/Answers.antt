@@ -1,22 +1,14 @@
-use Rattle.std.proofs.Common.{◌≡◌, ap, sym, ◌∙◌, subst, All, Some, None, slice_get}
+use Rattle.std.proofs.Common.{ap, sym, ◌∙◌, subst, All}
 use Rattle.std.specs.List.{list_any}
 use Rattle.ddl_steps.proofs.implying.is_implied.Goals as goal
 use Rattle.ddl_steps.specs.Checks.{implies}
-use Rattle.ddl_steps.proofs.Checks.{IsKeptOfLevel, kept_have_levels, first_part, never_empty}
+use Rattle.ddl_steps.proofs.Checks.{IsKeptOfLevel, kept_have_levels}
 
 pub has_implying-requires-clause-all : goal.has_implying-requires-clause-all
 has_implying-requires-clause-all c =
     let a = c.requires.siblings in
-    let s = c.args.session in
-    let t = c.args.table.number in
-    subst (All IsKeptOfLevel) (sym (c.as_slice.ensures ∙ first_part a.h s t c.in_ok-path.path.items c.in-Some.part.now (c.in_ok-path.ensures a.h a.txs a.catalogue) (ap (λ xs. slice_get xs 0) (sym c.deref.ensures.value) ∙ sym c.in-Some.ensures.value)))
-    (kept_have_levels a.h s t a.catalogue.sound)
-
-pub returns-in-None : goal.returns-in-None
-returns-in-None c = λ h txs catalog. absurd (never_empty h c.args.session c.args.table.number c.in_ok-path.path.items (c.in_ok-path.ensures h txs catalog) (ap (λ xs. slice_get xs 0) (sym c.deref.ensures.value) ∙ sym c.in-None.ensures.value))
+    subst (All IsKeptOfLevel) (sym (c.as_slice.ensures ∙ c.in_ok-checks.ensures a.h a.txs a.catalogue)) (kept_have_levels a.h c.args.session c.args.table.number a.catalogue.sound)
 
 pub returns : goal.returns
 returns c = λ h txs catalog.
-    let s = c.args.session in
-    let t = c.args.table.number in
-    c.has_implying.ensures ∙ ap (list_any (implies c.args.level.now c.args.bound.now)) (c.as_slice.ensures ∙ first_part h s t c.in_ok-path.path.items c.in-Some.part.now (c.in_ok-path.ensures h txs catalog) (ap (λ xs. slice_get xs 0) (sym c.deref.ensures.value) ∙ sym c.in-Some.ensures.value))
+    c.has_implying.ensures ∙ ap (list_any (implies c.args.level.now c.args.bound.now)) (c.as_slice.ensures ∙ c.in_ok-checks.ensures h txs catalog)

@@ -27,21 +27,21 @@ pub bounds-tables-parent : goal.bounds-tables-parent
 bounds-tables-parent c =
     let x : StoredEntry = get_or c.args.entries.now c.in-Some.at c.index-entries-at.result in
     let same : x ≡ get_or c.args.entries.now c.in-Some.at no_entry = grind (arith, common_steps, elements, c.in-Some.ensures.within) in
-    (subst (IsBetween c.args.tables.now) (sym same) (c.requires.listed.between c.in-Some.at c.in-Some.ensures.within)).parent
+    (subst (IsBetween c.args.tables.now) (sym same) (c.requires.grove.listed.between c.in-Some.at c.in-Some.ensures.within)).parent
 
 pub bounds-below-parent : goal.bounds-below-parent
 bounds-below-parent c =
     let x : StoredEntry = get_or c.args.entries.now c.in-Some.at c.index-entries-at.result in
     let same : x ≡ get_or c.args.entries.now c.in-Some.at no_entry = grind (arith, common_steps, elements, c.in-Some.ensures.within) in
-    let between = subst (IsBetween c.args.tables.now) (sym same) (c.requires.listed.between c.in-Some.at c.in-Some.ensures.within) in
-    omega (arith, between.parent, c.requires.listed.count)
+    let between = subst (IsBetween c.args.tables.now) (sym same) (c.requires.grove.listed.between c.in-Some.at c.in-Some.ensures.within) in
+    omega (arith, between.parent, c.requires.grove.listed.count)
 
-pub set_below-requires : goal.set_below-requires
-set_below-requires c =
+pub share_set-requires-clause-level : goal.share_set-requires-clause-level
+share_set-requires-clause-level c =
     let x : StoredEntry = get_or c.args.entries.now c.in-Some.at c.index-entries-at.result in
     let same : x ≡ get_or c.args.entries.now c.in-Some.at no_entry = grind (arith, common_steps, elements, c.in-Some.ensures.within) in
-    let between = subst (IsBetween c.args.tables.now) (sym same) (c.requires.listed.between c.in-Some.at c.in-Some.ensures.within) in
-    level_of c.args.tables.now c.args.entries.now c.args.below.now c.args.flags.now x.entry.parent.number _ c.index-below-parent.result c.requires between.parent c.index-below-parent.is
+    let between = subst (IsBetween c.args.tables.now) (sym same) (c.requires.grove.listed.between c.in-Some.at c.in-Some.ensures.within) in
+    level_of c.args.tables.now c.args.entries.now c.args.below.now c.args.flags.now x.entry.parent.number _ c.index-below-parent.result c.requires.grove between.parent c.index-below-parent.is
 
 pub returns-in-Leaf : goal.returns-in-Leaf
 returns-in-Leaf c =
@@ -50,7 +50,7 @@ returns-in-Leaf c =
     let x : StoredEntry = get_or c.args.entries.now c.in-Some.at c.index-entries-at.result in
     let k = c.in-Some.at in
     let same : x ≡ get_or c.args.entries.now k no_entry = grind (arith, common_steps, elements, c.in-Some.ensures.within) in
-    let between = subst (IsBetween c.args.tables.now) (sym same) (c.requires.listed.between k c.in-Some.ensures.within) in
+    let between = subst (IsBetween c.args.tables.now) (sym same) (c.requires.grove.listed.between k c.in-Some.ensures.within) in
     let here = table_is c.args.tables.now x.entry.parent.number c.index-tables-parent.result between.parent c.index-tables-parent.is in
     let shape : (table_at T x.entry.parent.number).shape ≡ LeafShape c.in-Leaf.field-0 = ap (λ (y : Table). y.shape) here ∙ ap (λ (y : StoredTable). y.table.shape) c.index-tables-parent.is ∙ c.in-Leaf.is in
     let found : Some (with_place k x.entry) ≡ above part c.args.table.number = ap (λ (y : StoredEntry). Some (with_place k y.entry)) same ∙ c.in-Some.ensures.is in
@@ -67,11 +67,11 @@ returns-in_ok-bounds-in-Level c =
     let e : Entry = with_place k x.entry in
     let p = x.entry.parent.number in
     let same : x ≡ get_or c.args.entries.now k no_entry = grind (arith, common_steps, elements, c.in-Some.ensures.within) in
-    let between = subst (IsBetween c.args.tables.now) (sym same) (c.requires.listed.between k c.in-Some.ensures.within) in
+    let between = subst (IsBetween c.args.tables.now) (sym same) (c.requires.grove.listed.between k c.in-Some.ensures.within) in
     let here = table_is c.args.tables.now p c.index-tables-parent.result between.parent c.index-tables-parent.is in
     let shape : (table_at T p).shape ≡ LevelShape c.in-Level.level = ap (λ (y : Table). y.shape) here ∙ ap (λ (y : StoredTable). y.table.shape) c.index-tables-parent.is ∙ c.in-Level.is in
     let found : Some e ≡ above part c.args.table.number = ap (λ (y : StoredEntry). Some (with_place k y.entry)) same ∙ c.in-Some.ensures.is in
-    let level : IsLevel c.args.entries.now c.index-below-parent.result F p = level_of c.args.tables.now c.args.entries.now c.args.below.now F p _ c.index-below-parent.result c.requires between.parent c.index-below-parent.is in
+    let level : IsLevel c.args.entries.now c.index-below-parent.result F p = level_of c.args.tables.now c.args.entries.now c.args.below.now F p _ c.index-below-parent.result c.requires.grove between.parent c.index-below-parent.is in
     let list = level.below in
     let are : c.numbers.result.now ≡ map number_of (children E p) = cc (c.numbers.ensures, list) in
     let child : c.place_among-child.result ≡ position_or_len (is_entry e) (children part p) = c.place_among-child.ensures ∙ place_is c.args.entries.now F c.numbers.result.now p e are in

@@ -26,5 +26,5 @@ pub returns-in-None-clause-answer : goal.returns-in-None-clause-answer
 returns-in-None-clause-answer c = λ h tells.
     let s = c.args.caller.session in
     let p = c.args.parent.number in
-    let none = sym (c.in_ok-default_of.ensures h tells.txs tells.catalog) ∙ c.in-None.is in
+    let none = sym (c.default_of.ensures h tells.txs tells.catalog) ∙ c.in-None.is in
     subst (λ (o : Option TableNo). judged h s (default_scan h s p c.args.bound.now c.args.name.now o) ≡ Ok c.empty.result) (sym none) (nothing_judged h s ∙ ap Ok (sym c.empty.ensures.is))

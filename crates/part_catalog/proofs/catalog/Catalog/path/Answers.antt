@@ -11,12 +11,17 @@ use Rattle.part_catalog.specs.declared.stored.StoredEntry.{StoredEntry}
 use Rattle.part_catalog.specs.Answers.{number_told, parent_told}
 use Rattle.part_catalog.specs.Kept.{KeptCatalogue, table_in, by_place}
 use Rattle.part_catalog.specs.Stands.{present_by, is_flagged}
+use Rattle.part_catalog.proofs.KeptTrees.{kept_lent}
 use Rattle.part_catalog.proofs.Trees.{lent, present_grove}
 use Rattle.part_catalog.proofs.Upwards.{parent_known, part_made, next_told, path_part, path_step}
 use Rattle.part_catalog.proofs.catalog.Catalog.path.Goals as goal
 
-pub place_of-requires : goal.place_of-requires
-place_of-requires c =
+pub place_of-requires-clause-kept : goal.place_of-requires-clause-kept
+place_of-requires-clause-kept c =
+    kept_lent c.self.inside.tables.items c.deref-in-loop-step-2.result.now c.self.inside.entries.items c.deref-in-loop-step-3.result.now c.self.inside.trees.items c.deref-in-loop-step-6.result.now c.deref-in-loop-step-2.ensures.value c.deref-in-loop-step-3.ensures.value c.deref-in-loop-step-6.ensures.value c.self.invariant.1
+
+pub place_of-requires-clause-grove : goal.place_of-requires-clause-grove
+place_of-requires-clause-grove c =
     let l = lent c.args.self.now c.self.inside.tables.items c.deref-in-loop-step-2.result.now c.self.inside.entries.items c.deref-in-loop-step-3.result.now c.self.inside.below.items c.deref-in-loop-step-4.result.now c.self.inside.names c.self.invariant.0 (ap (λ (k : KeptCatalogue). k.tables) c.self.view_is) (ap (λ (k : KeptCatalogue). k.entries) c.self.view_is) c.deref-in-loop-step-2.ensures.value c.deref-in-loop-step-3.ensures.value c.deref-in-loop-step-4.ensures.value in
     let rows : c.deref.result.now ≡ c.deref-in-loop-step-3.result.now = c.deref.ensures.value ∙ sym c.deref-in-loop-step-3.ensures.value in
     let count : length c.deref-in-loop-step-5.result.now ≡ length c.deref-in-loop-step-3.result.now = ap (length {A = Bool}) c.deref-in-loop-step-5.ensures.value ∙ c.in_ok-flags.ensures.count ∙ ap (length {A = StoredEntry}) rows in
@@ -34,8 +39,8 @@ loop-step-preserved c =
     let entries = ap (λ (k : KeptCatalogue). k.entries) c.self.view_is in
     let next : o ≡ parent_told (above (filter (is_flagged F) (by_place c.self.inside.entries.items)) t.number) =
     c.parent_in-next.ensures
-    ∙ ap (λ (fs : List Bool). parent_told (above (filter (is_flagged fs) (by_place c.deref-in-loop-step-6.result.now)) t.number)) c.deref-in-loop-step-7.ensures.value
-    ∙ ap (λ (es : List StoredEntry). parent_told (above (filter (is_flagged F) (by_place es)) t.number)) c.deref-in-loop-step-6.ensures.value in
+    ∙ ap (λ (fs : List Bool). parent_told (above (filter (is_flagged fs) (by_place c.deref-in-loop-step-7.result.now)) t.number)) c.deref-in-loop-step-8.ensures.value
+    ∙ ap (λ (es : List StoredEntry). parent_told (above (filter (is_flagged F) (by_place es)) t.number)) c.deref-in-loop-step-7.ensures.value in
     record {
       known = subst (λ (ts : List StoredTable). IfSome o (λ (p : TableNo). p.number < length ts)) tables (parent_known c.self.inside.tables.items c.self.inside.entries.items F t.number o c.self.invariant.0.listed.between next);
       told = λ h txs st.
