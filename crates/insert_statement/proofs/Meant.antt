@@ -29,9 +29,13 @@ use Rattle.insert_statement.specs.Inserted.{whole, whole_rows, rows_meant}
 pub whole_done : (width : ℕ) (ask : InsertAsk) (asked : Result InsertMeant Fault) (rows : List (List Value)) → asked ≡ Ok (insert_meant ask) → rows ≡ map (full_row width ask.columns) ask.rows → whole width asked ≡ Ok rows
 whole_done width ask asked rows is are = ap (whole width) is ∙ ap Ok (sym are)
 
-pub whole_refused : (width : ℕ) (r : Refusal) (asked : Result InsertMeant Fault) → IsAnswerBy insert_meant (Err r) asked → IsAnswer {T = List (List Value)} (Err r) (whole width asked)
-whole_refused width (Sql f) asked is = ap (whole width) is
-whole_refused width NoMemory asked is = tt
+pub whole_refused : {X : Type 0} (see : X → List (List Value)) (width : ℕ) (r : Refusal) (asked : Result InsertMeant Fault) → IsAnswerBy insert_meant (Err r) asked → IsAnswerBy see (Err r) (whole width asked)
+whole_refused see width (Sql f) asked is = ap (whole width) is
+whole_refused see width NoMemory asked is = tt
+
+refused_as : {X : Type 0} (see : X → List (List Value)) (r : Refusal) (asked : Result (List (List Value)) Fault) → IsAnswerBy see (Err r) asked → IsAnswer {T = List (List Value)} (Err r) asked
+refused_as see (Sql f) asked is = is
+refused_as see NoMemory asked is = tt
 
 -- ---- the part
 
@@ -39,13 +43,13 @@ whole_refused width NoMemory asked is = tt
 abbrev pub AreColumns : Stores → TableNo → List Column → Type 0
 AreColumns stores t columns = (h : History) → CatalogueStands stores.catalog h → columns ≡ (made_at h t.number).columns
 
-pub rows_done : (rows : List (List Value)) (stores : Stores) (caller : Caller) (t : TableNo) (columns : List Column) (params : List Param) (names : Option (List (List ℕ))) (values : List Trees) → MayAttempt stores caller → AreColumns stores t columns
-    → whole_rows columns params caller.session names values ≡ Ok rows → IsStep (λ (rs : List (List Value)). rs) (Ok rows) stores stores caller caller.cmd (rows_meant params caller.session t.number names values)
-rows_done rows stores caller t columns params names values may are is =
-    answered_done (λ (rs : List (List Value)). rs) rows stores caller (λ h. whole_rows (made_at h t.number).columns params caller.session names values) may (λ h stands. ap (λ cs. whole_rows cs params caller.session names values) (sym (are h stands.all.catalog)) ∙ is)
+pub rows_done : {X : Type 0} (see : X → List (List Value)) (rows : X) (stores : Stores) (caller : Caller) (t : TableNo) (columns : List Column) (params : List Param) (names : Option (List (List ℕ))) (values : List Trees) → MayAttempt stores caller → AreColumns stores t columns
+    → whole_rows columns params caller.session names values ≡ Ok (see rows) → IsStep see (Ok rows) stores stores caller caller.cmd (rows_meant params caller.session t.number names values)
+rows_done see rows stores caller t columns params names values may are is =
+    answered_done see rows stores caller (λ h. whole_rows (made_at h t.number).columns params caller.session names values) may (λ h stands. ap (λ cs. whole_rows cs params caller.session names values) (sym (are h stands.all.catalog)) ∙ is)
 
-pub rows_refused : (r : Refusal) (stores : Stores) (caller : Caller) (t : TableNo) (columns : List Column) (params : List Param) (names : Option (List (List ℕ))) (values : List Trees) → MayAttempt stores caller → AreColumns stores t columns
-    → IsAnswer {T = List (List Value)} (Err r) (whole_rows columns params caller.session names values) → IsStep (λ (rs : List (List Value)). rs) (Err (stop_of r)) stores stores caller caller.cmd (rows_meant params caller.session t.number names values)
-rows_refused r stores caller t columns params names values may are is =
-    answered_refused (λ (rs : List (List Value)). rs) r stores caller caller.cmd (λ h. whole_rows (made_at h t.number).columns params caller.session names values) may
-    (λ h stands. subst (λ cs. IsAnswer {T = List (List Value)} (Err r) (whole_rows cs params caller.session names values)) (are h stands.all.catalog) is)
+pub rows_refused : {X : Type 0} (see : X → List (List Value)) (r : Refusal) (stores : Stores) (caller : Caller) (t : TableNo) (columns : List Column) (params : List Param) (names : Option (List (List ℕ))) (values : List Trees) → MayAttempt stores caller → AreColumns stores t columns
+    → IsAnswerBy see (Err r) (whole_rows columns params caller.session names values) → IsStep see (Err (stop_of r)) stores stores caller caller.cmd (rows_meant params caller.session t.number names values)
+rows_refused see r stores caller t columns params names values may are is =
+    answered_refused see r stores caller caller.cmd (λ h. whole_rows (made_at h t.number).columns params caller.session names values) may
+    (λ h stands. subst (λ cs. IsAnswer {T = List (List Value)} (Err r) (whole_rows cs params caller.session names values)) (are h stands.all.catalog) (refused_as see r (whole_rows columns params caller.session names values) is))

@@ -58,17 +58,17 @@ pub(crate) fn store_in_leaf(
     caller: Caller,
     table: TableNo,
     leaf: LeafId,
-    rows: &[Row],
+    rows: Vec<Row>,
 ) -> Result<(), Stop>
     requires may { MayAttempt stores.old caller }
     requires known { table.number < length stores.old.catalog.tables }
     requires leaf { (h : History) → CatalogueStands stores.old.catalog h → (made_at h table.number).shape ≡ Leaf leaf }
-    requires rows { AreRowsOf stores.old.catalog table rows.now }
+    requires rows { AreRowsOf stores.old.catalog table rows.items }
     requires locked { MayWrite stores.old caller.session (table ∷ []) }
-    ensures { IsStep (λ u. u) result stores.old stores.new caller (caller.cmd + 1) (into_leaf caller table.number leaf rows.now) }
+    ensures { IsStep (λ u. u) result stores.old stores.new caller (caller.cmd + 1) (into_leaf caller table.number leaf rows.items) }
 {
     let target = target_of(alloc, stores, caller, table, leaf)?;
-    let leaves = same_leaf(alloc, leaf, rows)?;
+    let leaves = same_leaf(alloc, leaf, &rows)?;
     put_rows(
         alloc,
         stores,

@@ -31,12 +31,12 @@ fn store_in_leaves(
     caller: Caller,
     tree: &Tree,
     leaves: &[LeafId],
-    rows: &[Row],
+    rows: Vec<Row>,
 ) -> Result<(), Stop>
     requires may { MayAttempt stores.old caller }
-    requires placed { ArePlaced stores.old.txs stores.old.catalog caller (seen tree.now) leaves.now rows.now }
-    requires locked { MayWrite stores.old caller.session (ways_below (seen tree.now) rows.now) }
-    ensures { IsStep (λ u. u) result stores.old stores.new caller (caller.cmd + 1) (inserted.into_leaves caller (seen tree.now) leaves.now rows.now) }
+    requires placed { ArePlaced stores.old.txs stores.old.catalog caller (seen tree.now) leaves.now rows.items }
+    requires locked { MayWrite stores.old caller.session (ways_below (seen tree.now) rows.items) }
+    ensures { IsStep (λ u. u) result stores.old stores.new caller (caller.cmd + 1) (inserted.into_leaves caller (seen tree.now) leaves.now rows.items) }
 {
     trees_are_together();
     let Stores { txs, catalog, .. } = &*stores;
@@ -52,18 +52,18 @@ fn store_by_tree(
     names: &SessionNames,
     caller: Caller,
     table: TableNo,
-    rows: &[Row],
+    rows: Vec<Row>,
 ) -> Result<(), Stop>
     requires may { MayAttempt stores.old caller }
     requires there { IsKnownTo stores.old caller.session table.number }
     requires few { length stores.old.catalog.tables ≤ 4096 }
     requires level { (h : History) → CatalogueStands stores.old.catalog h → (level : OneLevel) × ((made_at h table.number).shape ≡ Level level) }
-    requires rows { AreRowsOf stores.old.catalog table rows.now }
-    ensures { IsStep (λ u. u) result stores.old stores.new caller (caller.cmd + 1) (inserted.into_partitions names.now caller table.number rows.now) }
+    requires rows { AreRowsOf stores.old.catalog table rows.items }
+    ensures { IsStep (λ u. u) result stores.old stores.new caller (caller.cmd + 1) (inserted.into_partitions names.now caller table.number rows.items) }
 {
     let (tree, path) = tree_and_path(alloc, stores, caller, table)?;
     let mut ways = Vec::new(alloc);
-    let leaves = leaves_and_ways(alloc, &stores.catalog, &tree, &path, rows, &mut ways)?;
+    let leaves = leaves_and_ways(alloc, &stores.catalog, &tree, &path, &rows, &mut ways)?;
     lock_tables(alloc, stores, names, caller, &ways, LockMode::RowExclusive)?;
     store_in_leaves(alloc, stores, caller, &tree, leaves.as_slice(), rows)
 }
@@ -91,14 +91,14 @@ pub(crate) fn store_below(
     names: &SessionNames,
     caller: Caller,
     table: TableNo,
-    rows: &[Row],
+    rows: Vec<Row>,
 ) -> Result<(), Stop>
     requires may { MayAttempt stores.old caller }
     requires there { IsKnownTo stores.old caller.session table.number }
     requires few { length stores.old.catalog.tables ≤ 4096 }
     requires level { (h : History) → CatalogueStands stores.old.catalog h → (level : OneLevel) × ((made_at h table.number).shape ≡ Level level) }
-    requires rows { AreRowsOf stores.old.catalog table rows.now }
-    ensures { IsStep (λ u. u) result stores.old stores.new caller (caller.cmd + 1) (inserted.into_partitions names.now caller table.number rows.now) }
+    requires rows { AreRowsOf stores.old.catalog table rows.items }
+    ensures { IsStep (λ u. u) result stores.old stores.new caller (caller.cmd + 1) (inserted.into_partitions names.now caller table.number rows.items) }
 {
     keep_tree(alloc, stores, caller, table)?;
     store_by_tree(alloc, stores, names, caller, table, rows)

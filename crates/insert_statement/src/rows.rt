@@ -2,7 +2,7 @@
 
 ghost use Rattle.std.specs.Prelude.{◌≡◌, ◌<◌, ◌++◌, ◌∷◌, [], IfOk, OnOk, map, length};
 ghost use Rattle.sql_ast.specs.Expressions.{trees};
-ghost use Rattle.pg_values.specs.Refusals.{IsAnswer};
+ghost use Rattle.expression_binder.specs.Firsts.{IsAnswerBy};
 ghost use Rattle.row_change.specs.FullRows as full_rows;
 ghost use Rattle.statement_steps.specs.Attempts.{MayAttempt};
 ghost use Rattle.statement_steps.specs.Steps.{IsStep};
@@ -13,7 +13,7 @@ use binding_laws::inserts_fit;
 use cond_logic::InsertAsk;
 use expression_binder::Param;
 use history::Column;
-use pg_values::{NoMemory, Refusal, Row, RowList, TableNo};
+use pg_values::{NoMemory, Refusal, Row, TableNo};
 use row_change::full_row;
 use sql_ast::Insert;
 use sql_binder::bind_insert;
@@ -21,17 +21,17 @@ use statement_steps::{Caller, Stop, scope_columns};
 use std::alloc::Global;
 use stores::Stores;
 
-fn add_row(rows: &mut RowList, row: Row) -> Result<(), NoMemory>
-    ensures { OnOk result (rows.new ≡ rows.old ++ row ∷ []) }
+fn add_row(rows: &mut Vec<Row>, row: Row) -> Result<(), NoMemory>
+    ensures { OnOk result (rows.new.items ≡ rows.old.items ++ row ∷ []) }
 {
     rows.push(row)?;
     Ok(())
 }
 
-fn whole_rows(alloc: Global, width: usize, ask: &InsertAsk) -> Result<RowList, NoMemory>
-    ensures { IfOk result (λ rows. rows ≡ map (full_rows.full_row width ask.now.columns) ask.now.rows) }
+fn whole_rows(alloc: Global, width: usize, ask: &InsertAsk) -> Result<Vec<Row>, NoMemory>
+    ensures { IfOk result (λ rows. rows.items ≡ map (full_rows.full_row width ask.now.columns) ask.now.rows) }
 {
-    let mut rows = RowList::new(alloc);
+    let mut rows = Vec::new(alloc);
     for values in ask.rows.as_slice() {
         let row = full_row(alloc, width, ask.columns.as_slice(), values)?;
         add_row(&mut rows, row)?;
@@ -46,8 +46,8 @@ fn rows_for(
     params: &[Param],
     session: u32,
     statement: &Insert,
-) -> Result<RowList, Refusal>
-    ensures { IsAnswer result (inserted.whole_rows columns.now params.now session statement.now.columns (map trees statement.now.rows)) }
+) -> Result<Vec<Row>, Refusal>
+    ensures { IsAnswerBy (λ rows. rows.items) result (inserted.whole_rows columns.now params.now session statement.now.columns (map trees statement.now.rows)) }
 {
     let named = scope_columns(alloc, columns)?;
     let ask = bind_insert(alloc, statement, &named, params, session)?;
@@ -62,11 +62,11 @@ pub(crate) fn rows_meant(
     caller: Caller,
     table: TableNo,
     statement: &Insert,
-) -> Result<RowList, Stop>
+) -> Result<Vec<Row>, Stop>
     requires may { MayAttempt stores.now caller }
     requires known { table.number < length stores.now.catalog.tables }
-    ensures step { IsStep (λ rows. rows) result stores.now stores.now caller caller.cmd (inserted.rows_meant params.now caller.session table.number statement.now.columns (map trees statement.now.rows)) }
-    ensures of { IfOk result (λ rows. AreRowsOf stores.now.catalog table rows) }
+    ensures step { IsStep (λ rows. rows.items) result stores.now stores.now caller caller.cmd (inserted.rows_meant params.now caller.session table.number statement.now.columns (map trees statement.now.rows)) }
+    ensures of { IfOk result (λ rows. AreRowsOf stores.now.catalog table rows.items) }
 {
     inserts_fit();
     let columns = stores.catalog.table(table).columns.as_slice();

@@ -44,14 +44,14 @@ fn store_into(
     names: &SessionNames,
     caller: Caller,
     table: TableNo,
-    rows: &[Row],
+    rows: Vec<Row>,
 ) -> Result<(), Stop>
     requires may { MayAttempt stores.old caller }
     requires there { IsKnownTo stores.old caller.session table.number }
     requires few { length stores.old.catalog.tables ≤ 4096 }
-    requires rows { AreRowsOf stores.old.catalog table rows.now }
+    requires rows { AreRowsOf stores.old.catalog table rows.items }
     requires locked { MayWrite stores.old caller.session (table ∷ []) }
-    ensures { IsStep (λ u. u) result stores.old stores.new caller (caller.cmd + 1) (inserted_spec.into names.now caller table.number rows.now) }
+    ensures { IsStep (λ u. u) result stores.old stores.new caller (caller.cmd + 1) (inserted_spec.into names.now caller table.number rows.items) }
 {
     match leaf_of(&stores.catalog, table) {
         Some(leaf) => store_in_leaf(alloc, stores, caller, table, leaf, rows),
@@ -79,5 +79,5 @@ pub fn insert(
     let name = statement.table.as_bytes();
     let table = lock_named(alloc, stores, names, caller, name, LockMode::RowExclusive)?;
     let rows = rows_meant(alloc, stores, params, caller, table, statement)?;
-    store_into(alloc, stores, names, caller, table, rows.as_slice())
+    store_into(alloc, stores, names, caller, table, rows)
 }

@@ -16,11 +16,11 @@ pub(crate) fn put_rows(
     caller: Caller,
     targets: &[Target],
     leaves: &[LeafId],
-    rows: &[Row],
+    rows: Vec<Row>,
 ) -> Result<(), Stop>
     requires may { MayAttempt stores.old caller }
-    requires rows { MayStore stores.old caller.session targets.now leaves.now rows.now }
-    ensures { IsStep (λ u. u) result stores.old stores.new caller (caller.cmd + 1) (put targets.now caller leaves.now rows.now) }
+    requires rows { MayStore stores.old caller.session targets.now leaves.now rows.items }
+    ensures { IsStep (λ u. u) result stores.old stores.new caller (caller.cmd + 1) (put targets.now caller leaves.now rows.items) }
 {
     let Some(by) = stores.txs.open_of(caller.session) else {
         unreachable!()

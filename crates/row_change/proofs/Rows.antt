@@ -1,5 +1,5 @@
 -- Rows stored one after the other.
-use Rattle.std.proofs.Common.{◌≡◌, ℕ, suc, ◌+◌, ◌<◌, List, [], ◌∷◌, ◌++◌, Result, Ok, Err, length, find, drop, get_or, drop-cons, add-one, refl, sym, ap, subst, ◌∙◌, arith, append_assoc, append-nil}
+use Rattle.std.proofs.Common.{◌≡◌, ℕ, List, [], ◌∷◌, ◌++◌, Result, Ok, Err, length, find, refl, sym, ap, subst, ◌∙◌, arith, append_assoc, append-nil}
 use Rattle.pg_values.specs.declared.value.Value.{Value}
 use Rattle.pg_values.specs.declared.fault.Fault.{Fault}
 use Rattle.pg_values.specs.declared.fault.Refusal.{Refusal}
@@ -30,7 +30,7 @@ pub record Reached (t : KeptTable) (c : KeptCatalogue) (s : KeptRows) (h : Histo
   pub store : StoreStands s (events ++ h)
   pub whole : made ≡ behind events (rest (events ++ h))
 
-pub begun : (txs : KeptTable) (catalogue : KeptCatalogue) (kept : KeptRows) (h : History) (rest : History → Made) → TableStands txs h → CatalogueStands catalogue h → StoreStands kept h → Reached txs catalogue kept h (rest h) rest
+begun : (txs : KeptTable) (catalogue : KeptCatalogue) (kept : KeptRows) (h : History) (rest : History → Made) → TableStands txs h → CatalogueStands catalogue h → StoreStands kept h → Reached txs catalogue kept h (rest h) rest
 begun txs catalogue kept h rest t c s = record { events = []; txs = t; catalogue = c; store = s; whole = ap (λ es. record { events = es; told = (rest h).told }) (sym (append-nil (rest h).events)) }
 
 no_fault : (fs : List Fault) (es : History) → (made_by fs es).told ≡ Ok tt → fs ≡ []
@@ -92,37 +92,41 @@ Stores txs catalogue kept new answer targets by cmd leaf row =
 abbrev pub Left : KeptTable → KeptCatalogue → KeptRows → History → Made → List Target → TxId → ℕ → List LeafId → List (List Value) → Type 0
 Left txs catalogue kept h whole targets by cmd leaves rows = Reached txs catalogue kept h whole (λ g. all_stored targets by cmd g leaves rows)
 
+-- all of them, before the first
+pub rows_begun : (txs : KeptTable) (catalogue : KeptCatalogue) (kept : KeptRows) (h : History) (targets : List Target) (by : TxId) (cmd : ℕ) (leaves : List LeafId) (rows left : List (List Value)) → left ≡ rows → TableStands txs h → CatalogueStands catalogue h → StoreStands kept h
+    → Left txs catalogue kept h (all_stored targets by cmd h leaves rows) targets by cmd leaves left
+rows_begun txs catalogue kept h targets by cmd leaves rows left same t c s =
+    subst (λ (rs : List (List Value)). Left txs catalogue kept h (all_stored targets by cmd h leaves rs) targets by cmd leaves left) same (begun txs catalogue kept h (λ g. all_stored targets by cmd g leaves left) t c s)
+
 faults_of : List Target → LeafId → List Value → History → List Fault
 faults_of targets leaf row g = leaf_faults (tables_made (catalogue_events g)) (find (is_into leaf) targets) row ++ full_faults g row
 
-first_row : (rows : List (List Value)) (i : ℕ) (row : List Value) → i < length rows → row ≡ get_or rows i row → drop i rows ≡ row ∷ drop (i + 1) rows
-first_row rows i row within is = drop-cons rows i row within ∙ (ap (λ r. r ∷ drop (suc i) rows) (sym is) ∙ ap (λ n. row ∷ drop n rows) (sym (add-one i)))
-
 -- the first of them is stored
-pub row_stored : (txs : KeptTable) (catalogue : KeptCatalogue) (kept new : KeptRows) (h : History) (whole : Made) (targets : List Target) (by : TxId) (cmd : ℕ) (leaves others : List LeafId) (leaf : LeafId) (rows : List (List Value)) (i : ℕ) (row : List Value)
-    → i < length rows → row ≡ get_or rows i row → leaves ≡ leaf ∷ others → Stores txs catalogue kept new (Ok tt) targets by cmd leaf row → Left txs catalogue kept h whole targets by cmd leaves (drop i rows) → Left txs catalogue new h whole targets by cmd others (drop (i + 1) rows)
+pub row_stored : (txs : KeptTable) (catalogue : KeptCatalogue) (kept new : KeptRows) (h : History) (whole : Made) (targets : List Target) (by : TxId) (cmd : ℕ) (leaves others : List LeafId) (leaf : LeafId) (rows rest : List (List Value)) (row : List Value)
+    → leaves ≡ leaf ∷ others → rows ≡ row ∷ rest → Stores txs catalogue kept new (Ok tt) targets by cmd leaf row → Left txs catalogue kept h whole targets by cmd leaves rows → Left txs catalogue new h whole targets by cmd others rest
 unfolding faults_of
-row_stored txs catalogue kept new h whole targets by cmd leaves others leaf rows i row within is front made left =
-    one_more txs catalogue kept new h whole (λ g. all_stored targets by cmd g leaves (drop i rows)) (λ g. all_stored targets by cmd g others (drop (i + 1) rows)) (faults_of targets leaf row) (λ g. RowBorn (newborn g leaf row by cmd))
-    (λ g. ap (λ ls. all_stored targets by cmd g ls (drop i rows)) front ∙ ap (all_stored targets by cmd g (leaf ∷ others)) (first_row rows i row within is)) made left
+row_stored txs catalogue kept new h whole targets by cmd leaves others leaf rows rest row front first made left =
+    one_more txs catalogue kept new h whole (λ g. all_stored targets by cmd g leaves rows) (λ g. all_stored targets by cmd g others rest) (faults_of targets leaf row) (λ g. RowBorn (newborn g leaf row by cmd))
+    (λ g. ap (λ ls. all_stored targets by cmd g ls rows) front ∙ ap (all_stored targets by cmd g (leaf ∷ others)) first) made left
 
 -- or refused
-pub row_refused : (txs : KeptTable) (catalogue : KeptCatalogue) (kept new : KeptRows) (h : History) (whole : Made) (targets : List Target) (by : TxId) (cmd : ℕ) (leaves others : List LeafId) (leaf : LeafId) (rows : List (List Value)) (i : ℕ) (row : List Value) (refusal : Refusal)
-    → i < length rows → row ≡ get_or rows i row → leaves ≡ leaf ∷ others → Stores txs catalogue kept new (Err refusal) targets by cmd leaf row → Left txs catalogue kept h whole targets by cmd leaves (drop i rows) → IsMade (Err refusal) new h whole
+pub row_refused : (txs : KeptTable) (catalogue : KeptCatalogue) (kept new : KeptRows) (h : History) (whole : Made) (targets : List Target) (by : TxId) (cmd : ℕ) (leaves others : List LeafId) (leaf : LeafId) (rows rest : List (List Value)) (row : List Value) (refusal : Refusal)
+    → leaves ≡ leaf ∷ others → rows ≡ row ∷ rest → Stores txs catalogue kept new (Err refusal) targets by cmd leaf row → Left txs catalogue kept h whole targets by cmd leaves rows → IsMade (Err refusal) new h whole
 unfolding faults_of
-row_refused txs catalogue kept new h whole targets by cmd leaves others leaf rows i row (Sql f) within is front made left =
-    stopped_here txs catalogue kept new h whole (λ g. all_stored targets by cmd g leaves (drop i rows)) (λ g. all_stored targets by cmd g others (drop (i + 1) rows)) (faults_of targets leaf row) (λ g. RowBorn (newborn g leaf row by cmd)) f
-    (λ g. ap (λ ls. all_stored targets by cmd g ls (drop i rows)) front ∙ ap (all_stored targets by cmd g (leaf ∷ others)) (first_row rows i row within is)) made left
-row_refused txs catalogue kept new h whole targets by cmd leaves others leaf rows i row NoMemory within is front made left = tt
+row_refused txs catalogue kept new h whole targets by cmd leaves others leaf rows rest row (Sql f) front first made left =
+    stopped_here txs catalogue kept new h whole (λ g. all_stored targets by cmd g leaves rows) (λ g. all_stored targets by cmd g others rest) (faults_of targets leaf row) (λ g. RowBorn (newborn g leaf row by cmd)) f
+    (λ g. ap (λ ls. all_stored targets by cmd g ls rows) front ∙ ap (all_stored targets by cmd g (leaf ∷ others)) first) made left
+row_refused txs catalogue kept new h whole targets by cmd leaves others leaf rows rest row NoMemory front first made left = tt
 
-none_left : (targets : List Target) (by : TxId) (cmd : ℕ) (g : History) (leaves : List LeafId) → all_stored targets by cmd g leaves [] ≡ record { events = []; told = Ok tt }
-none_left targets by cmd g [] = refl
-none_left targets by cmd g (l ∷ ls) = refl
+no_row : (targets : List Target) (by : TxId) (cmd : ℕ) (g : History) (leaves : List LeafId) (rows : List (List Value)) → length rows ≡ 0 → all_stored targets by cmd g leaves rows ≡ record { events = []; told = Ok tt }
+no_row targets by cmd g [] rows none = refl
+no_row targets by cmd g (l ∷ ls) [] none = refl
+no_row targets by cmd g (l ∷ ls) (r ∷ rs) none = absurd (omega (arith, none))
 
 -- no row is left, or no leaf
-pub rows_done : (txs : KeptTable) (catalogue : KeptCatalogue) (kept : KeptRows) (h : History) (whole : Made) (targets : List Target) (by : TxId) (cmd : ℕ) (leaves : List LeafId) (rows : List (List Value)) → rows ≡ [] → Left txs catalogue kept h whole targets by cmd leaves rows → IsMade (Ok tt) kept h whole
+pub rows_done : (txs : KeptTable) (catalogue : KeptCatalogue) (kept : KeptRows) (h : History) (whole : Made) (targets : List Target) (by : TxId) (cmd : ℕ) (leaves : List LeafId) (rows : List (List Value)) → length rows ≡ 0 → Left txs catalogue kept h whole targets by cmd leaves rows → IsMade (Ok tt) kept h whole
 rows_done txs catalogue kept h whole targets by cmd leaves rows none left =
-    done_here txs catalogue kept h whole (λ g. all_stored targets by cmd g leaves rows) (λ g. ap (all_stored targets by cmd g leaves) none ∙ none_left targets by cmd g leaves) left
+    done_here txs catalogue kept h whole (λ g. all_stored targets by cmd g leaves rows) (λ g. no_row targets by cmd g leaves rows none) left
 
 no_leaf : (targets : List Target) (by : TxId) (cmd : ℕ) (g : History) (leaves : List LeafId) (rows : List (List Value)) → length leaves ≡ 0 → all_stored targets by cmd g leaves rows ≡ record { events = []; told = Ok tt }
 no_leaf targets by cmd g [] rows none = refl

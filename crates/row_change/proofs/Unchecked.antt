@@ -1,8 +1,9 @@
--- Where no CHECK was kept, nothing of a path is asked of a row that comes from above.
+-- Of a path only its CHECKs are asked of a row that comes from above, and nothing where no CHECK was kept.
 use Rattle.std.proofs.Common.{◌≡◌, ℕ, refl, sym, subst, ap, false, List, [], ◌∷◌, ◌∙◌, Option, Some, None, map, length}
 use Rattle.std.specs.Prelude.{filter, if◌then◌else◌}
 use Rattle.std.specs.List.{All, list_any}
-use Rattle.std.proofs.lemmas.List.Elements.{All-head, All-tail, All-nil}
+use Rattle.std.proofs.lemmas.List.Elements.{All-head, All-tail, All-nil, All-cons}
+use Rattle.pg_values.specs.declared.ids.TableNo.{TableNo}
 use Rattle.pg_values.specs.declared.value.Value.{Value}
 use Rattle.history.specs.declared.catalogue.Check.{Check}
 use Rattle.history.specs.Catalogue.{tables_made, checks_kept}
@@ -12,6 +13,7 @@ use Rattle.row_router.specs.declared.path_part.PathPart.{PathPart}
 use Rattle.row_router.specs.Histories.{path_of, part_of, above, kept_of, parent_in}
 use Rattle.row_router.specs.declared.path.PathTest.TheVariants.{Checks}
 use Rattle.row_router.specs.Paths.{refused, check_refuses, PartFits}
+use Rattle.part_catalog.specs.Answers.{without_place}
 use Rattle.row_change.specs.Placing.{IsPartNumbered}
 use Rattle.row_change.specs.Targets.{HasChecksOf}
 use Rattle.row_change.proofs.Made.{upwards_all, IsHere}
@@ -51,9 +53,26 @@ nothing_asked h session t count is kept =
       numbered = λ n made. All-nil (IsPartNumbered n);
     }
 
-pub all_asked : (path parts : List PathPart) → parts ≡ path → HasChecksOf path parts
-all_asked path parts is = record {
-  refuses = λ row. ap (refused Checks row) is;
-  fits = λ row fit. subst (λ (ps : List PathPart). All (PartFits row) ps) (sym is) fit;
-  numbered = λ n made. subst (λ (ps : List PathPart). All (IsPartNumbered n) ps) (sym is) made;
+-- ---- a path with its CHECKs alone
+
+same_refuse : (row : List Value) (path : List PathPart) → refused Checks row (map without_place path) ≡ refused Checks row path
+same_refuse row [] = refl
+same_refuse row (p ∷ ps) = ap (λ (o : Option TableNo). if list_any (check_refuses row) p.checks then Some p.table else o) (same_refuse row ps)
+
+less_fit : (row : List Value) (path : List PathPart) → All (PartFits row) path → All (PartFits row) (map without_place path)
+less_fit row [] all = All-nil (PartFits row)
+less_fit row (p ∷ ps) all = All-cons (PartFits row) (without_place p) (map without_place ps) (tt, (All-head (PartFits row) p ps all).1) (less_fit row ps (All-tail (PartFits row) p ps all))
+
+same_tables : (n : ℕ) (path : List PathPart) → All (IsPartNumbered n) path → All (IsPartNumbered n) (map without_place path)
+same_tables n [] all = All-nil (IsPartNumbered n)
+same_tables n (p ∷ ps) all = All-cons (IsPartNumbered n) (without_place p) (map without_place ps) (All-head (IsPartNumbered n) p ps all) (same_tables n ps (All-tail (IsPartNumbered n) p ps all))
+
+checks_alone : (path : List PathPart) → HasChecksOf path (map without_place path)
+checks_alone path = record {
+  refuses = λ row. same_refuse row path;
+  fits = λ row fit. less_fit row path fit;
+  numbered = λ n made. same_tables n path made;
 }
+
+pub checks_asked : (path parts : List PathPart) → parts ≡ map without_place path → HasChecksOf path parts
+checks_asked path parts is = subst (HasChecksOf path) (sym is) (checks_alone path)

@@ -22,7 +22,7 @@ use row_router::{PathPart, Tree};
 use std::alloc::Global;
 use tx_table::TxTable;
 
-// The path of a table, as far as rows from above are asked of it: where no CHECK was ever kept, nothing of it is.
+// The path of a table, as far as rows from above are asked of it: its CHECKs, and where none was ever kept, nothing.
 fn path_for(
     alloc: Global,
     catalog: &Catalog,
@@ -35,10 +35,10 @@ fn path_for(
     ensures { IfOk result (λ parts. (h : History) → TableStands txs.now h → CatalogueStands catalog.now h → HasChecksOf (path_of h session table.number) parts.items) }
 {
     if catalog.check_count() == 0 {
-        Ok(Vec::new(alloc))
-    } else {
-        catalog.path(alloc, txs, table, session)
+        return Ok(Vec::new(alloc));
     }
+    let path = catalog.check_path(alloc, txs, table, session)?;
+    Ok(path)
 }
 
 /// The target of a leaf whose table this is.

@@ -18,7 +18,7 @@ use crate::by_leaf::ByLeaf;
 use crate::testing::check_row;
 use history::TxId;
 use part_catalog::Catalog;
-use pg_values::{LeafId, NoMemory, Refusal, Row, copy_row};
+use pg_values::{LeafId, NoMemory, Refusal, Row};
 use refusals::too_many;
 use row_store::{PutCause, RowStore};
 use std::alloc::Global;
@@ -43,17 +43,17 @@ fn put_row(
     txs: &TxTable,
     store: &mut RowStore,
     leaf: LeafId,
-    row: &Row,
+    row: Row,
     by: TxId,
     cmd: u32,
 ) -> Result<(), Refusal>
     requires known { leaf.number < store.old.leaves }
     requires runs { IsOpen txs.now by.number }
     ensures made { (h : History) → TableStands txs.now h → StoreStands store.old h →
-        IsMade result store.new h (made_by (full_faults h row.now) (RowChange (RowBorn (newborn h leaf row.now by cmd)) ∷ [])) }
+        IsMade result store.new h (made_by (full_faults h row) (RowChange (RowBorn (newborn h leaf row by cmd)) ∷ [])) }
     ensures leaves { store.new.leaves ≡ store.old.leaves }
 {
-    match store.put(txs, leaf, copy_row(alloc, row)?, by, cmd) {
+    match store.put(txs, leaf, row, by, cmd) {
         Ok(()) => Ok(()),
         Err(back) => Err(refused(alloc, back.cause)),
     }
@@ -121,20 +121,20 @@ fn store_row(
     targets: &[Target],
     places: &ByLeaf<usize>,
     leaf: LeafId,
-    row: &Row,
+    row: Row,
     by: TxId,
     cmd: u32,
 ) -> Result<(), Refusal>
-    requires fits { FitsTargets targets.now row.now }
+    requires fits { FitsTargets targets.now row }
     requires targets { All (IsTargetNumbered (length catalog.now.tables)) targets.now }
     requires places { ArePlaces places.now targets.now }
     requires leaf { leaf.number < store.old.leaves }
     requires runs { IsOpen txs.now by.number }
     ensures made { (h : History) → TableStands txs.now h → CatalogueStands catalog.now h → StoreStands store.old h →
-        IsMade result store.new h (stored h (leaf_faults (tables_made (catalogue_events h)) (find (is_into leaf) targets.now) row.now) leaf row.now by cmd) }
+        IsMade result store.new h (stored h (leaf_faults (tables_made (catalogue_events h)) (find (is_into leaf) targets.now) row) leaf row by cmd) }
     ensures leaves { store.new.leaves ≡ store.old.leaves }
 {
-    check_placed(alloc, catalog, targets, places, leaf, row)?;
+    check_placed(alloc, catalog, targets, places, leaf, &row)?;
     put_row(alloc, txs, store, leaf, row, by, cmd)
 }
 
@@ -148,17 +148,17 @@ pub fn store_rows(
     store: &mut RowStore,
     targets: &[Target],
     leaves: &[LeafId],
-    rows: &[Row],
+    rows: Vec<Row>,
     by: TxId,
     cmd: u32,
 ) -> Result<(), Refusal>
-    requires fits { All (FitsTargets targets.now) rows.now }
+    requires fits { All (FitsTargets targets.now) rows.items }
     requires targets { All (IsTargetNumbered (length catalog.now.tables)) targets.now }
     requires leaves { All (IsLeafKnown store.old.leaves) leaves.now }
     requires told { All (HasTarget targets.now) leaves.now }
     requires runs { IsOpen txs.now by.number }
     ensures made { (h : History) → TableStands txs.now h → CatalogueStands catalog.now h → StoreStands store.old h →
-        IsMade result store.new h (all_stored targets.now by cmd h leaves.now rows.now) }
+        IsMade result store.new h (all_stored targets.now by cmd h leaves.now rows.items) }
     ensures leaves { store.new.leaves ≡ store.old.leaves }
 {
     let places = places_of(alloc, targets)?;

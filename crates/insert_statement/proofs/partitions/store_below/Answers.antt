@@ -29,12 +29,12 @@ pub store_by_tree-requires-clause-level : goal.store_by_tree-requires-clause-lev
 store_by_tree-requires-clause-level c = subst (λ (s : Stores). (h : History) → CatalogueStands s.catalog h → (level : OneLevel) × ((made_at h c.args.table.number).shape ≡ Level level)) (sym c.keep_tree.ensures) c.requires.level
 
 pub store_by_tree-requires-clause-rows : goal.store_by_tree-requires-clause-rows
-store_by_tree-requires-clause-rows c = subst (λ (s : Stores). AreRowsOf s.catalog c.args.table c.args.rows.now) (sym c.keep_tree.ensures) c.requires.rows
+store_by_tree-requires-clause-rows c = subst (λ (s : Stores). AreRowsOf s.catalog c.args.table c.args.rows.items) (sym c.keep_tree.ensures) c.requires.rows
 
 pub returns-in_err-keep_tree : goal.returns-in_err-keep_tree
 returns-in_err-keep_tree c =
-    subst (λ (s : Stores). IsStep (λ u. u) c.from_residual.result c.args.stores.now s c.args.caller (c.args.caller.cmd + 1) (into_partitions c.args.names.now c.args.caller c.args.table.number c.args.rows.now)) (sym c.keep_tree.ensures) (out_here c.from_residual.ensures.1)
+    subst (λ (s : Stores). IsStep (λ u. u) c.from_residual.result c.args.stores.now s c.args.caller (c.args.caller.cmd + 1) (into_partitions c.args.names.now c.args.caller c.args.table.number c.args.rows.items)) (sym c.keep_tree.ensures) (out_here c.from_residual.ensures.1)
 
 pub returns : goal.returns
 returns c =
-    subst (λ (s : Stores). IsStep (λ u. u) c.store_by_tree.result s c.store_by_tree.new.stores c.args.caller (c.args.caller.cmd + 1) (into_partitions c.args.names.now c.args.caller c.args.table.number c.args.rows.now)) c.keep_tree.ensures c.store_by_tree.ensures
+    subst (λ (s : Stores). IsStep (λ u. u) c.store_by_tree.result s c.store_by_tree.new.stores c.args.caller (c.args.caller.cmd + 1) (into_partitions c.args.names.now c.args.caller c.args.table.number c.args.rows.items)) c.keep_tree.ensures c.store_by_tree.ensures

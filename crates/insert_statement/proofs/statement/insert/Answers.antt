@@ -8,7 +8,6 @@ use Rattle.statement_steps.proofs.Steps.{goes, handed_on, may_go_on, moved, stop
 use Rattle.statement_steps.proofs.Rights.{may_write_named}
 use Rattle.insert_statement.specs.Inserted.{gathered, into, rows_meant}
 use Rattle.insert_statement.proofs.statement.insert.Goals as goal
-use Rattle.row_change.specs.Laws.{AreRowsOf}
 
 pub lock_named-requires-clause-may : goal.lock_named-requires-clause-may
 lock_named-requires-clause-may c = may_go_on _ _ _ _ _ _ c.requires.may c.in_ok-hold_if_repeatable.ensures.step
@@ -30,7 +29,7 @@ store_into-requires-clause-few c =
     subst (λ (s : Stores). length s.catalog.tables ≤ 4096) (sym c.lock_named.ensures.rest) (subst (λ (s : Stores). length s.catalog.tables ≤ 4096) (sym c.hold_if_repeatable.ensures.rest) c.requires.few)
 
 pub store_into-requires-clause-rows : goal.store_into-requires-clause-rows
-store_into-requires-clause-rows c = subst (AreRowsOf c.lock_named.new.stores.catalog c.in_ok-table.table) (sym c.as_slice.ensures) c.in_ok-rows.ensures.of
+store_into-requires-clause-rows c = c.in_ok-rows.ensures.of
 
 pub store_into-requires-clause-locked : goal.store_into-requires-clause-locked
 store_into-requires-clause-locked c =
@@ -68,5 +67,4 @@ returns c =
     goes (held_at caller.level caller.session caller.cmd) (λ u. gathered names c.args.params.now caller st.table st.columns (map trees st.rows)) c.in_ok-hold_if_repeatable.ensures.step
     (goes (named names caller.session RowExclusive st.table) (λ x. follow (rows_meant c.args.params.now caller.session x st.columns (map trees st.rows)) (λ rows. into names caller x rows))
     (moved (named names caller.session RowExclusive) _ _ c.as_bytes-name.ensures c.in_ok-table.ensures.step)
-    (goes (rows_meant c.args.params.now caller.session t st.columns (map trees st.rows)) (λ rows. into names caller t rows) c.in_ok-rows.ensures.step
-    (moved (into names caller t) _ _ c.as_slice.ensures c.store_into.ensures)))
+    (goes (rows_meant c.args.params.now caller.session t st.columns (map trees st.rows)) (λ rows. into names caller t rows) c.in_ok-rows.ensures.step c.store_into.ensures))

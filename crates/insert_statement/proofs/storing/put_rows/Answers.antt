@@ -20,10 +20,10 @@ store_rows-requires-clause-runs c = (c.args.caller.session, sym c.in-Some.ensure
 
 pub returns : goal.returns
 returns c =
-    put_ok c.args.stores.now c.store_rows.new.store c.args.caller c.args.targets.now c.args.leaves.now c.args.rows.now c.requires.may
+    put_ok c.args.stores.now c.store_rows.new.store c.args.caller c.args.targets.now c.args.leaves.now c.args.rows.items c.requires.may
     (record { by = c.in-Some.by; own = c.in-Some.ensures.is; may = c.requires.rows.may; made = c.in_ok-store_rows.ensures.made })
 
 pub returns-in_err-store_rows : goal.returns-in_err-store_rows
 returns-in_err-store_rows c =
-    handed_on c.from_residual.ensures.1 (put_refused c.args.stores.now c.store_rows.new.store c.args.caller c.args.targets.now c.args.leaves.now c.args.rows.now c.in_err-store_rows.field-0.0 c.requires.may
+    handed_on c.from_residual.ensures.1 (put_refused c.args.stores.now c.store_rows.new.store c.args.caller c.args.targets.now c.args.leaves.now c.args.rows.items c.in_err-store_rows.field-0.0 c.requires.may
     (record { by = c.in-Some.by; own = c.in-Some.ensures.is; may = c.requires.rows.may; made = c.in_err-store_rows.ensures.made }))
