@@ -1,5 +1,5 @@
 -- The new row of an UPDATE, its leaf, and what stands against it there.
-use Rattle.std.proofs.Common.{◌≡◌, ℕ, ◌<◌, ◌==◌, ◌||◌, Bool, true, false, if◌then◌else◌, List, [], ◌∷◌, inl, inr, refl, ap, sym, ◌∙◌, subst, arith, Option, Some, None, is_some, Result, Ok, Err, All, IfOk, MatchResult, find, length, slice_index_or}
+use Rattle.std.proofs.Common.{◌≡◌, ℕ, ◌<◌, ◌==◌, ◌||◌, Bool, true, false, if◌then◌else◌, List, [], ◌∷◌, inl, inr, refl, ap, sym, ◌∙◌, subst, arith, Option, Some, None, is_some, Result, Ok, Err, All, IfOk, OnOk, MatchResult, find, length, slice_index_or}
 use Rattle.std.proofs.lemmas.List.Elements.{All-cons, All-nil}
 use Rattle.pg_values.specs.declared.value.Value.{Value}
 use Rattle.pg_values.specs.declared.fault.Fault.{Fault}
@@ -44,6 +44,8 @@ use Rattle.statement_steps.specs.declared.stop.Stop.{Stop}
 use Rattle.statement_steps.specs.Faults.{stop_of}
 use Rattle.statement_steps.proofs.Parts.{stays}
 use Rattle.statement_steps.specs.Gathered.{Found}
+use Rattle.change_statement.specs.Housed.{IsHousing}
+use Rattle.change_statement.specs.declared.housing.Housing.{Housing}
 use Rattle.change_statement.specs.Running.{IsRun, MayEndIn, MayRun, Takes}
 use Rattle.change_statement.specs.Updated.{renewed, stored, updating}
 use Rattle.statement_steps.specs.Waiting.{Since}
@@ -247,6 +249,25 @@ stays_told (Err (Sql f)) (x ∷ xs) old is = let same : x ≡ f = (let c = is in
 stays_told (Err NoMemory) fs old is = tt
 
 -- ---- what stands against it
+
+-- a target of the leaf
+pub into_own : (t : Target) (leaf : LeafId) → t.leaf ≡ leaf → is_into leaf t ≡ true
+into_own t leaf is =
+    let number : t.leaf.number ≡ leaf.number = ap (λ (l : LeafId). l.number) is in
+    let test : (t.leaf.number == leaf.number) ≡ true = grind (arith, nat_tests, number) in
+    test
+
+pub one_has : (t : Target) (leaf : LeafId) → is_into leaf t ≡ true → HasTarget (t ∷ []) leaf
+one_has t leaf is = or_left (is_into leaf t) false is
+
+-- what is so is so where it is answered
+pub on_ok : {X E : Type 0} (P : Type 0) (r : Result X E) → P → OnOk r P
+on_ok P (Ok x) p = p
+on_ok P (Err e) p = tt
+
+-- what is known of the leaves holds as long as rows alone change
+pub housing_stays : (old new : Stores) (s : ℕ) (tree : TableTree) (housing : Housing) → new ≡ record old { rows = new.rows } → IsHousing old s tree housing → IsHousing new s tree housing
+housing_stays old new s tree housing same is = subst (λ (x : Stores). IsHousing x s tree housing) (sym same) (record { holders = is.holders; last = is.last })
 
 pub one_target : (h : History) (s : ℕ) (g : Found) (t : Target) → IsTargetOf h s g.tree t → All (IsTargetOf h s g.tree) (t ∷ [])
 one_target h s g t is = let P = IsTargetOf h s g.tree in All-cons P t [] is (All-nil P)

@@ -3,6 +3,7 @@ pub mod Changing
 pub mod Deleted
 pub mod Faults
 pub mod Gathered
+pub mod Housed
 pub mod Kept
 pub mod Laws
 pub mod Moments

@@ -32,6 +32,7 @@ mod deciding;
 mod deleting;
 mod finding;
 mod gathering;
+mod housing;
 mod keeping;
 mod laws;
 mod row_faults;

@@ -1,9 +1,8 @@
 //! The rows of an UPDATE or a DELETE, one after the other.
 
-ghost use Rattle.std.specs.Prelude.{◌≡◌, All, IfOk, Some, None, length, slice_index_or};
+ghost use Rattle.std.specs.Prelude.{◌≡◌, All, IfOk, OnOk, Some, None, length, slice_index_or};
 ghost use Rattle.history.specs.History.{History};
 ghost use Rattle.tx_table.specs.Stands.{TableStands};
-ghost use Rattle.row_change.specs.Targets.{AreHolders};
 ghost use Rattle.change_statement.specs.Verdicts.{updater_meant};
 ghost use Rattle.cond_logic.specs.Asked.{change_meant};
 ghost use Rattle.change_statement.specs.Targets.{targets};
@@ -13,6 +12,7 @@ ghost use Rattle.statement_steps.specs.Attempts.{MayAttempt};
 ghost use Rattle.statement_steps.specs.Ended.{giving};
 ghost use Rattle.change_statement.specs.Changed as changed_spec;
 ghost use Rattle.change_statement.specs.Changing.{changing};
+ghost use Rattle.change_statement.specs.Housed.{IsHousing};
 ghost use Rattle.statement_steps.specs.Gathered.{CanBeCounted, found_of};
 ghost use Rattle.change_statement.specs.Running.{IsGathered, IsRun, IsTargetIn, MayRun};
 ghost use Rattle.change_statement.specs.Turns.{IsTurn};
@@ -20,12 +20,13 @@ ghost use Rattle.change_statement.specs.Turns.{IsTurn};
 use crate::asking::Change;
 use crate::conflicts::conflict_fault;
 use crate::deleting::end_row;
+use crate::housing::Housing;
 use crate::turn::Turn;
 use crate::updating::{renew, store};
 use crate::waiting::pause;
 use crate::{ChangedRows, Updater, Verdict, decide, find_targets};
 use pg_values::{Isolation, NoMemory};
-use row_change::{Holders, holders_of};
+use row_change::holders_of;
 use statement_steps::{Caller, Gathered, SessionNames, Stop, TargetRow};
 use std::alloc::Global;
 use stores::Stores;
@@ -65,16 +66,17 @@ fn change_row(
     names: &SessionNames,
     caller: Caller,
     gathered: &Gathered,
-    holders: &Holders,
+    housing: &mut Housing,
     change: Change<'_>,
     target: TargetRow,
     changed: u64,
 ) -> Result<Turn, Stop>
     requires may { MayRun (found_of gathered.now) stores.old caller }
-    requires holders { AreHolders holders.now (found_of gathered.now).tree }
+    requires housing { IsHousing stores.old caller.session (found_of gathered.now).tree housing.old }
     requires target { IsTargetIn stores.old.rows (found_of gathered.now) target }
     requires few { CanBeCounted changed 1 }
-    ensures { IsTurn (changing change.entry caller (found_of gathered.now)) names.now result stores.old stores.new caller (found_of gathered.now) target changed }
+    ensures turn { IsTurn (changing change.entry caller (found_of gathered.now)) names.now result stores.old stores.new caller (found_of gathered.now) target changed }
+    ensures housing { OnOk result (IsHousing stores.old caller.session (found_of gathered.now).tree housing.new) }
 {
     let updater = updater(stores, caller, gathered);
     match decide(&stores.rows, &stores.txs, &updater, target.id) {
@@ -88,7 +90,7 @@ fn change_row(
                         stores,
                         caller,
                         gathered,
-                        holders,
+                        housing,
                         target.leaf,
                         id,
                         row,
@@ -130,11 +132,23 @@ pub(crate) fn change_rows(
     ensures { IsRun (found_of gathered) changed_spec.told_by result stores.old stores.new caller (λ h. giving (changed_spec.told_of (found_of gathered)) (changed_spec.all_changed (changing change.entry caller (found_of gathered)) names.now caller (found_of gathered) targets.now changed h)) }
 {
     let holders = holders_of(alloc, &gathered.tree)?;
+    let mut housing = Housing {
+        holders,
+        last: None,
+    };
     let mut left = targets;
     let mut changed = changed;
     while let Some((target, others)) = left.split_first() {
         let turn = change_row(
-            alloc, stores, names, caller, &gathered, &holders, change, *target, changed,
+            alloc,
+            stores,
+            names,
+            caller,
+            &gathered,
+            &mut housing,
+            change,
+            *target,
+            changed,
         )?;
         match turn {
             Turn::Counted(next) => {

@@ -1,14 +1,15 @@
 //! A row version that is followed by another one.
 
-ghost use Rattle.std.specs.Prelude.{◌≡◌, ◌<◌, ◌∷◌, [], IfOk, length};
+ghost use Rattle.std.specs.Prelude.{◌≡◌, ◌<◌, ◌∷◌, [], IfOk, OnOk, length};
 ghost use Rattle.pg_values.specs.Refusals.{IsAnswer, or_first};
 ghost use Rattle.history.specs.History.{History};
 ghost use Rattle.row_router.specs.Seen.{seen};
 ghost use Rattle.row_store.specs.Kept.{stored_at};
 ghost use Rattle.row_change.specs.Succession.{KeepsVersions};
-ghost use Rattle.row_change.specs.Targets.{AreHolders, HasWay, holder_faults};
+ghost use Rattle.row_change.specs.Targets.{HasWay, holder_faults};
 ghost use Rattle.part_catalog.specs.Found.{made_at};
 ghost use Rattle.part_catalog.specs.Stands.{CatalogueStands};
+ghost use Rattle.change_statement.specs.Housed.{IsHousing};
 ghost use Rattle.change_statement.specs.NewRows.{new_row};
 ghost use Rattle.cond_logic.specs.Asked.{change_meant};
 ghost use Rattle.stores.specs.Stand.{Stands};
@@ -18,16 +19,15 @@ ghost use Rattle.change_statement.specs.Running.{Agree, IsPlacedIn, IsRun, IsTak
 ghost use Rattle.statement_steps.specs.Gathered.{found_of};
 ghost use Rattle.change_statement.specs.Updated as updated;
 
+use crate::housing::{Housing, keep_target};
 use crate::new_row;
 use part_catalog::Catalog;
 use pg_values::{LeafId, Refusal, Row, RowId};
-use row_change::{
-    Holders, check_bounds, check_kept, check_leaf, leaves_of, succeed_row, target_of,
-};
+use row_change::{check_bounds, check_kept, check_leaf, leaves_of, succeed_row};
 use statement_steps::{Caller, Gathered, Stop};
 use std::alloc::Global;
 use std::slice::from_ref;
-use stores::{Stores, trees_are_together};
+use stores::Stores;
 
 // ---- the new row
 
@@ -87,23 +87,22 @@ fn check_holder(
     stores: &Stores,
     caller: Caller,
     gathered: &Gathered,
-    holders: &Holders,
+    housing: &mut Housing,
     leaf: LeafId,
     row: &Row,
 ) -> Result<(), Refusal>
     requires may { MayRun (found_of gathered.now) stores.now caller }
-    requires holders { AreHolders holders.now (found_of gathered.now).tree }
+    requires housing { IsHousing stores.now caller.session (found_of gathered.now).tree housing.old }
     requires of { AreRowsOf stores.now.catalog (found_of gathered.now).table (row.now ∷ []) }
     requires way { HasWay (found_of gathered.now).tree leaf }
-    ensures { (h : History) → Stands stores.now h → IsAnswer result (or_first (holder_faults h caller.session (seen gathered.now.tree) leaf row.now) tt) }
+    ensures told { (h : History) → Stands stores.now h → IsAnswer result (or_first (holder_faults h caller.session (seen gathered.now.tree) leaf row.now) tt) }
+    ensures housing { OnOk result (IsHousing stores.now caller.session (found_of gathered.now).tree housing.new) }
 {
-    trees_are_together();
-    let catalog = &stores.catalog;
-    let Some(table) = holders.of(leaf) else {
-        unreachable!()
-    };
-    let target = target_of(alloc, catalog, &stores.txs, caller.session, leaf, table)?;
-    check_leaf(alloc, catalog, from_ref(&target), leaf, row)
+    keep_target(alloc, stores, caller, gathered, housing, leaf)?;
+    match &housing.last {
+        Some(target) => check_leaf(alloc, &stores.catalog, from_ref(target), leaf, row),
+        None => unreachable!(),
+    }
 }
 
 // And those that were gathered of the named table and of those above it, which others may have cut off since.
@@ -112,17 +111,18 @@ fn check(
     stores: &Stores,
     caller: Caller,
     gathered: &Gathered,
-    holders: &Holders,
+    housing: &mut Housing,
     leaf: LeafId,
     row: &Row,
 ) -> Result<(), Refusal>
     requires may { MayRun (found_of gathered.now) stores.now caller }
-    requires holders { AreHolders holders.now (found_of gathered.now).tree }
+    requires housing { IsHousing stores.now caller.session (found_of gathered.now).tree housing.old }
     requires of { AreRowsOf stores.now.catalog (found_of gathered.now).table (row.now ∷ []) }
     requires way { HasWay (found_of gathered.now).tree leaf }
-    ensures { (h : History) → Stands stores.now h → IsAnswer result (or_first (updated.against h caller.session (found_of gathered.now) leaf row.now) tt) }
+    ensures told { (h : History) → Stands stores.now h → IsAnswer result (or_first (updated.against h caller.session (found_of gathered.now) leaf row.now) tt) }
+    ensures housing { OnOk result (IsHousing stores.now caller.session (found_of gathered.now).tree housing.new) }
 {
-    check_holder(alloc, stores, caller, gathered, holders, leaf, row)?;
+    check_holder(alloc, stores, caller, gathered, housing, leaf, row)?;
     check_kept(alloc, &stores.catalog, &gathered.path, row)
 }
 
@@ -159,19 +159,19 @@ fn succeed(
 }
 
 /// The row takes the place of the version, in the leaf where it belongs: where no row may move, in that of the
-/// version. The tables of the tree are known by their leaves.
+/// version. What is known of the tree's leaves is kept.
 pub(crate) fn store(
     alloc: Global,
     stores: &mut Stores,
     caller: Caller,
     gathered: &Gathered,
-    holders: &Holders,
+    housing: &mut Housing,
     from: LeafId,
     id: RowId,
     row: Row,
 ) -> Result<(), Stop>
     requires may { MayRun (found_of gathered.now) stores.old caller }
-    requires holders { AreHolders holders.now (found_of gathered.now).tree }
+    requires housing { IsHousing stores.old caller.session (found_of gathered.now).tree housing.old }
     requires version { MayEndIn (found_of gathered.now) stores.old caller id }
     requires own { (stored_at stores.old.rows.stored id).version.leaf ≡ from }
     requires keys { Agree (change_meant gathered.now.ask).settings (stored_at stores.old.rows.stored id).version.row row }
@@ -179,8 +179,9 @@ pub(crate) fn store(
     ensures run { IsRun (found_of gathered.now) (λ u. u) result stores.old stores.new caller (updated.stored caller (found_of gathered.now) from id row) }
     ensures rest { stores.new ≡ record stores.old { rows = stores.new.rows } }
     ensures keeps { KeepsVersions stores.old.rows stores.new.rows }
+    ensures housing { OnOk result (IsHousing stores.old caller.session (found_of gathered.now).tree housing.new) }
 {
     let leaf = house(alloc, stores, gathered, from, &row)?;
-    check(alloc, stores, caller, gathered, holders, leaf, &row)?;
+    check(alloc, stores, caller, gathered, housing, leaf, &row)?;
     succeed(alloc, stores, caller, gathered, from, id, leaf, row)
 }

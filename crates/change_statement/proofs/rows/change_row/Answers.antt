@@ -42,8 +42,8 @@ store-requires-clause-keys c =
 pub conflict_fault-requires : goal.conflict_fault-requires
 conflict_fault-requires c = tables_low c.args.stores.now c.args.caller (found_of c.args.gathered.now) c.requires.may
 
-pub returns-in-Delete : goal.returns-in-Delete
-returns-in-Delete c =
+pub returns-in-Delete-clause-turn : goal.returns-in-Delete-clause-turn
+returns-in-Delete-clause-turn c =
     let g = found_of c.args.gathered.now in (
       is_changed (changing c.args.change c.args.caller g) c.args.names.now c.args.stores.now c.end_row.new.stores c.args.caller g c.args.target c.args.changed (c.args.changed + 1) c.in-Change.seen.id c.in-Change.seen.row.now refl c.requires.may
           (decided_is c.args.stores.now c.args.caller g c.args.target (updater_meant c.updater-updater.result) (Changes c.in-Change.seen.id c.in-Change.seen.row.now) c.updater-updater.ensures.is c.in-Change.ensures.is)
@@ -53,8 +53,8 @@ returns-in-Delete c =
       omega arith,
     )
 
-pub returns-in_ok-store-in-Update : goal.returns-in_ok-store-in-Update
-returns-in_ok-store-in-Update c =
+pub returns-in_ok-store-in-Update-clause-turn : goal.returns-in_ok-store-in-Update-clause-turn
+returns-in_ok-store-in-Update-clause-turn c =
     let g = found_of c.args.gathered.now in
     let seen = c.in-Change.seen in (
       is_changed (changing c.args.change c.args.caller g) c.args.names.now c.args.stores.now c.store.new.stores c.args.caller g c.args.target c.args.changed (c.args.changed + 1) seen.id seen.row.now refl c.requires.may
@@ -66,8 +66,8 @@ returns-in_ok-store-in-Update c =
       omega arith,
     )
 
-pub returns-in_err-store-in-Update : goal.returns-in_err-store-in-Update
-returns-in_err-store-in-Update c =
+pub returns-in_err-store-in-Update-clause-turn : goal.returns-in_err-store-in-Update-clause-turn
+returns-in_err-store-in-Update-clause-turn c =
     let g = found_of c.args.gathered.now in
     let seen = c.in-Change.seen in
     handed_turn (changing c.args.change c.args.caller g) c.args.names.now _ _ c.args.stores.now c.store.new.stores c.args.caller g c.args.target c.args.changed c.from_residual-in_err-store-in-Update.ensures.1
@@ -76,8 +76,8 @@ returns-in_err-store-in-Update c =
     (subst (λ (ch : Change). IsRun g (λ (u : Unit {0}). u) (Err c.in_err-store-in-Update.field-0.0) c.args.stores.now c.store.new.stores c.args.caller (changing ch c.args.caller g c.args.target.leaf seen.id seen.row.now)) (sym c.in-Update.is)
     (updated_run c.in_ok-row-in-Update.row (Err c.in_err-store-in-Update.field-0.0) c.args.stores.now c.store.new.stores c.args.caller g c.args.target.leaf seen.id seen.row.now c.requires.may c.in_ok-row-in-Update.ensures.is c.in_err-store-in-Update.ensures.run)))
 
-pub returns-in_err-row-in-Update : goal.returns-in_err-row-in-Update
-returns-in_err-row-in-Update c =
+pub returns-in_err-row-in-Update-clause-turn : goal.returns-in_err-row-in-Update-clause-turn
+returns-in_err-row-in-Update-clause-turn c =
     let g = found_of c.args.gathered.now in
     let seen = c.in-Change.seen in
     let e = stop_of c.in_err-row-in-Update.field-0.0 in
@@ -87,8 +87,8 @@ returns-in_err-row-in-Update c =
     (subst (λ (ch : Change). IsRun g (λ (u : Unit {0}). u) (Err e) c.args.stores.now c.args.stores.now c.args.caller (changing ch c.args.caller g c.args.target.leaf seen.id seen.row.now)) (sym c.in-Update.is)
     (faulty_run c.in_err-row-in-Update.field-0.0 c.args.stores.now c.args.caller g c.args.target.leaf seen.id seen.row.now c.requires.may c.in_err-row-in-Update.ensures.is)))
 
-pub returns-in-Pass : goal.returns-in-Pass
-returns-in-Pass c =
+pub returns-in-Pass-clause-turn : goal.returns-in-Pass-clause-turn
+returns-in-Pass-clause-turn c =
     let g = found_of c.args.gathered.now in (
       is_passed (changing c.args.change c.args.caller g) c.args.names.now c.args.stores.now c.args.caller g c.args.target c.args.changed c.requires.may
           (decided_is c.args.stores.now c.args.caller g c.args.target (updater_meant c.updater-updater.result) PassesBy c.updater-updater.ensures.is c.in-Pass.ensures.is),
@@ -97,8 +97,8 @@ returns-in-Pass c =
       omega arith,
     )
 
-pub returns-in-Wait : goal.returns-in-Wait
-returns-in-Wait c =
+pub returns-in-Wait-clause-turn : goal.returns-in-Wait-clause-turn
+returns-in-Wait-clause-turn c =
     let g = found_of c.args.gathered.now in (
       refl,
       decided_is c.args.stores.now c.args.caller g c.args.target (updater_meant c.updater-updater.result) (WaitsFor c.in-Wait.other) c.updater-updater.ensures.is c.in-Wait.ensures.is,
@@ -106,14 +106,14 @@ returns-in-Wait c =
       is_seat c.args.stores.now c.args.caller (found_of c.args.gathered.now) c.in-Wait.other c.requires.may c.in-Wait.ensures.wait.known,
     )
 
-pub returns-in_ok-fault-in-Refuse : goal.returns-in_ok-fault-in-Refuse
-returns-in_ok-fault-in-Refuse c =
+pub returns-in_ok-fault-in-Refuse-clause-turn : goal.returns-in_ok-fault-in-Refuse-clause-turn
+returns-in_ok-fault-in-Refuse-clause-turn c =
     let g = found_of c.args.gathered.now in
     is_refused (changing c.args.change c.args.caller g) c.args.names.now c.args.stores.now c.args.caller g c.args.target c.args.changed c.in-Refuse.conflict c.in_ok-fault-in-Refuse.fault c.in_ok-fault-in-Refuse.ensures c.requires.may
     (decided_is c.args.stores.now c.args.caller g c.args.target (updater_meant c.updater-updater.result) (Refuses c.in-Refuse.conflict) c.updater-updater.ensures.is c.in-Refuse.ensures.is)
 
-pub returns-in_err-fault-in-Refuse : goal.returns-in_err-fault-in-Refuse
-returns-in_err-fault-in-Refuse c =
+pub returns-in_err-fault-in-Refuse-clause-turn : goal.returns-in_err-fault-in-Refuse-clause-turn
+returns-in_err-fault-in-Refuse-clause-turn c =
     let g = found_of c.args.gathered.now in
     handed_turn (changing c.args.change c.args.caller g) c.args.names.now _ _ c.args.stores.now c.args.stores.now c.args.caller g c.args.target c.args.changed c.from_residual-in_err-fault-in-Refuse.ensures.1
     (is_out (changing c.args.change c.args.caller g) c.args.names.now c.args.stores.now c.args.caller g c.args.target c.args.changed)

@@ -9,11 +9,18 @@ use Rattle.change_statement.specs.Changed.{all_changed, paused, told_by, told_of
 use Rattle.change_statement.specs.Running.{IsRun, IsTargetIn, MayRun}
 use Rattle.change_statement.specs.Standing.{standing}
 use Rattle.change_statement.proofs.EachRow.{IsLeft, all_left, one_less, stops_there, waits_there, none_left, no_length}
+use Rattle.change_statement.proofs.Renewed.{housing_stays}
 use Rattle.change_statement.proofs.Runs.{counted_run, handed_run, no_memory_run, stopped_run}
 use Rattle.change_statement.proofs.rows.change_rows.Goals as goal
 
 pub loop-target-init : goal.loop-target-init
-loop-target-init c = all_left c.requires.may c.requires.targets c.requires.few
+loop-target-init c = record {
+  left = all_left c.requires.may c.requires.targets c.requires.few;
+  housing = record { holders = c.in_ok-holders.ensures; last = tt };
+}
+
+pub change_row-requires-clause-housing : goal.change_row-requires-clause-housing
+change_row-requires-clause-housing c = c.loop-target.invariant.housing
 
 pub returns-in_err-holders : goal.returns-in_err-holders
 returns-in_err-holders c =
@@ -22,34 +29,34 @@ returns-in_err-holders c =
     (no_memory_run g told_by c.args.stores.now c.args.stores.now c.args.caller (λ h. giving (told_of g) (all_changed (changing c.args.change c.args.caller g) c.args.names.now c.args.caller g c.args.targets.now c.args.changed h)) (stays c.args.stores.now c.args.caller.session))
 
 pub change_row-requires-clause-may : goal.change_row-requires-clause-may
-change_row-requires-clause-may c = c.loop-target.invariant.may
+change_row-requires-clause-may c = c.loop-target.invariant.left.may
 
 pub change_row-requires-clause-target : goal.change_row-requires-clause-target
 change_row-requires-clause-target c =
     let whole : c.loop-target.left.now ≡ c.in-Some.target.now ∷ c.in-Some.others.now = search rules in
-    All-head (IsTargetIn c.loop-target.stores.rows (found_of c.args.gathered)) c.in-Some.target.now c.in-Some.others.now (subst (All (IsTargetIn c.loop-target.stores.rows (found_of c.args.gathered))) whole c.loop-target.invariant.all)
+    All-head (IsTargetIn c.loop-target.stores.rows (found_of c.args.gathered)) c.in-Some.target.now c.in-Some.others.now (subst (All (IsTargetIn c.loop-target.stores.rows (found_of c.args.gathered))) whole c.loop-target.invariant.left.all)
 
 pub change_row-requires-clause-few : goal.change_row-requires-clause-few
 change_row-requires-clause-few c =
     let whole : c.loop-target.left.now ≡ c.in-Some.target.now ∷ c.in-Some.others.now = search rules in
     let long = ap length whole in
-    let few = c.loop-target.invariant.few in
+    let few = c.loop-target.invariant.left.few in
     omega (arith, few, long)
 
 pub pause-requires-clause-may : goal.pause-requires-clause-may
-pause-requires-clause-may c = subst (λ (s : Stores). MayRun (found_of c.args.gathered) s c.args.caller) (sym (rw c.in-Waits.is at c.in_ok-turn.ensures).0) c.loop-target.invariant.may
+pause-requires-clause-may c = subst (λ (s : Stores). MayRun (found_of c.args.gathered) s c.args.caller) (sym (rw c.in-Waits.is at c.in_ok-turn.ensures.turn).0) c.loop-target.invariant.left.may
 
 pub pause-requires-clause-another : goal.pause-requires-clause-another
-pause-requires-clause-another c = (rw c.in-Waits.is at c.in_ok-turn.ensures).2
+pause-requires-clause-another c = (rw c.in-Waits.is at c.in_ok-turn.ensures.turn).2
 
 pub pause-requires-clause-known : goal.pause-requires-clause-known
-pause-requires-clause-known c = (rw c.in-Waits.is at c.in_ok-turn.ensures).3
+pause-requires-clause-known c = (rw c.in-Waits.is at c.in_ok-turn.ensures.turn).3
 
 pub pause-requires-clause-left : goal.pause-requires-clause-left
-pause-requires-clause-left c = subst (λ (s : Stores). All (IsTargetIn s.rows (found_of c.args.gathered)) c.loop-target.left.now) (sym (rw c.in-Waits.is at c.in_ok-turn.ensures).0) c.loop-target.invariant.all
+pause-requires-clause-left c = subst (λ (s : Stores). All (IsTargetIn s.rows (found_of c.args.gathered)) c.loop-target.left.now) (sym (rw c.in-Waits.is at c.in_ok-turn.ensures.turn).0) c.loop-target.invariant.left.all
 
 pub pause-requires-clause-few : goal.pause-requires-clause-few
-pause-requires-clause-few c = c.loop-target.invariant.few
+pause-requires-clause-few c = c.loop-target.invariant.left.few
 
 pub returns-in-Waits : goal.returns-in-Waits
 returns-in-Waits c =
@@ -58,7 +65,7 @@ returns-in-Waits c =
     let names = c.args.names.now in
     let whole : c.loop-target.left.now ≡ c.in-Some.target.now ∷ c.in-Some.others.now = search rules in
     stopped_run (told_of g)
-    (waits_there (subst (λ ts. IsLeft c.args.stores.now c.loop-target.stores c.args.caller g change names c.args.targets.now ts c.args.changed c.loop-target.changed) whole c.loop-target.invariant) (rw c.in-Waits.is at c.in_ok-turn.ensures)
+    (waits_there (subst (λ ts. IsLeft c.args.stores.now c.loop-target.stores c.args.caller g change names c.args.targets.now ts c.args.changed c.loop-target.changed) whole c.loop-target.invariant.left) (rw c.in-Waits.is at c.in_ok-turn.ensures.turn)
     (subst (λ ts. IsRun g (λ (u : Unit {0}). u) (Err c.pause.result) c.change_row.new.stores c.pause.new.stores c.args.caller (λ h. paused names c.args.caller c.in-Waits.other (standing h c.args.caller g ts c.loop-target.changed) h)) whole c.pause.ensures))
 
 pub returns-in_err-turn : goal.returns-in_err-turn
@@ -67,14 +74,18 @@ returns-in_err-turn c =
     let change = changing c.args.change c.args.caller g in
     let whole : c.loop-target.left.now ≡ c.in-Some.target.now ∷ c.in-Some.others.now = search rules in
     handed_run c.from_residual-in_err-turn.ensures.1 (stopped_run (told_of g)
-    (stops_there (subst (λ ts. IsLeft c.args.stores.now c.loop-target.stores c.args.caller g change c.args.names.now c.args.targets.now ts c.args.changed c.loop-target.changed) whole c.loop-target.invariant) c.in_err-turn.ensures))
+    (stops_there (subst (λ ts. IsLeft c.args.stores.now c.loop-target.stores c.args.caller g change c.args.names.now c.args.targets.now ts c.args.changed c.loop-target.changed) whole c.loop-target.invariant.left) c.in_err-turn.ensures.turn))
 
 pub loop-target-preserved : goal.loop-target-preserved
 loop-target-preserved c =
     let g = found_of c.args.gathered in
     let change = changing c.args.change c.args.caller g in
     let whole : c.loop-target.left.now ≡ c.in-Some.target.now ∷ c.in-Some.others.now = search rules in
-    one_less (subst (λ ts. IsLeft c.args.stores.now c.loop-target.stores c.args.caller g change c.args.names.now c.args.targets.now ts c.args.changed c.loop-target.changed) whole c.loop-target.invariant) (rw c.in-Counted.is at c.in_ok-turn.ensures)
+    let turn = rw c.in-Counted.is at c.in_ok-turn.ensures.turn in
+    record {
+      left = one_less (subst (λ ts. IsLeft c.args.stores.now c.loop-target.stores c.args.caller g change c.args.names.now c.args.targets.now ts c.args.changed c.loop-target.changed) whole c.loop-target.invariant.left) turn;
+      housing = housing_stays c.loop-target.stores c.change_row.new.stores c.args.caller.session g.tree c.change_row.new.housing turn.1 c.in_ok-turn.ensures.housing;
+    }
 
 pub returns : goal.returns
 returns c =
@@ -82,4 +93,4 @@ returns c =
     let change = changing c.args.change c.args.caller g in
     let none : c.loop-target.left.now ≡ [] = no_length c.loop-target.left.now c.in_default.ensures.cases in
     counted_run (told_of g) refl
-    (none_left (subst (λ ts. IsLeft c.args.stores.now c.loop-target.stores c.args.caller g change c.args.names.now c.args.targets.now ts c.args.changed c.loop-target.changed) none c.loop-target.invariant))
+    (none_left (subst (λ ts. IsLeft c.args.stores.now c.loop-target.stores c.args.caller g change c.args.names.now c.args.targets.now ts c.args.changed c.loop-target.changed) none c.loop-target.invariant.left))

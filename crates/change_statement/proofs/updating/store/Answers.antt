@@ -8,7 +8,7 @@ use Rattle.statement_steps.specs.Gathered.{found_of}
 use Rattle.change_statement.specs.Updated.{against, housed, rehoused, stored_in, succeeded, tested}
 use Rattle.change_statement.proofs.Births.{none_stands}
 use Rattle.change_statement.proofs.Kept.{one_of}
-use Rattle.change_statement.proofs.Renewed.{answer_run, has_way, refusal_run, takes}
+use Rattle.change_statement.proofs.Renewed.{answer_run, has_way, on_ok, refusal_run, takes}
 use Rattle.change_statement.proofs.Runs.{handed_run, stop_run, then_run}
 use Rattle.change_statement.proofs.updating.store.Goals as goal
 
@@ -30,7 +30,7 @@ pub succeed-requires-clause-placed : goal.succeed-requires-clause-placed
 succeed-requires-clause-placed c = record { placed = c.in_ok-leaf.ensures.is; way = c.in_ok-leaf.ensures.way }
 
 pub succeed-requires-clause-taken : goal.succeed-requires-clause-taken
-succeed-requires-clause-taken c = none_stands c.args.stores.now c.args.caller (found_of c.args.gathered.now) c.in_ok-leaf.leaf c.args.row c.in_ok-check.ensures
+succeed-requires-clause-taken c = none_stands c.args.stores.now c.args.caller (found_of c.args.gathered.now) c.in_ok-leaf.leaf c.args.row c.in_ok-check.ensures.told
 
 pub returns-in_err-leaf-clause-run : goal.returns-in_err-leaf-clause-run
 returns-in_err-leaf-clause-run c =
@@ -51,7 +51,7 @@ returns-in_err-check-clause-run c =
     (then_run (rehoused g c.args.from row) (stored_in c.args.caller g c.args.from c.args.id row)
     (answer_run g leaf c.args.stores.now c.args.caller (λ h. housed g.moves (tables_of h) g.tree g.path c.args.from row) c.requires.may (λ h stands. c.in_ok-leaf.ensures.is h stands.all.catalog))
     (stop_run (tested c.args.caller g leaf row) (λ u. succeeded c.args.caller c.args.from c.args.id leaf row)
-    (refusal_run g c.in_err-check.field-0.0 c.args.stores.now c.args.caller (λ h. or_first (against h c.args.caller.session g leaf row) tt) c.requires.may c.in_err-check.ensures)))
+    (refusal_run g c.in_err-check.field-0.0 c.args.stores.now c.args.caller (λ h. or_first (against h c.args.caller.session g leaf row) tt) c.requires.may c.in_err-check.ensures.told)))
 
 pub returns-in_err-check-clause-keeps : goal.returns-in_err-check-clause-keeps
 returns-in_err-check-clause-keeps c = keeps_all c.args.stores.now.rows c.args.stores.now.rows refl
@@ -64,4 +64,7 @@ returns-clause-run c =
     then_run (rehoused g c.args.from row) (stored_in c.args.caller g c.args.from c.args.id row)
     (answer_run g leaf c.args.stores.now c.args.caller (λ h. housed g.moves (tables_of h) g.tree g.path c.args.from row) c.requires.may (λ h stands. c.in_ok-leaf.ensures.is h stands.all.catalog))
     (then_run (tested c.args.caller g leaf row) (λ u. succeeded c.args.caller c.args.from c.args.id leaf row)
-    (answer_run g tt c.args.stores.now c.args.caller (λ h. or_first (against h c.args.caller.session g leaf row) tt) c.requires.may c.in_ok-check.ensures) c.succeed.ensures.run)
+    (answer_run g tt c.args.stores.now c.args.caller (λ h. or_first (against h c.args.caller.session g leaf row) tt) c.requires.may c.in_ok-check.ensures.told) c.succeed.ensures.run)
+
+pub returns-clause-housing : goal.returns-clause-housing
+returns-clause-housing c = on_ok _ c.succeed.result c.in_ok-check.ensures.housing
