@@ -131,6 +131,14 @@ fn push_led<'t>(
         (kept_spec.kept_tables (keeps_for prunes item (map cond_tree conds.now)) (seen tree.now))) }
     ensures leaves { OnOk result (leaves.new.items ≡ leaves.old.items ++ leaves_below (keeps_for prunes item (map cond_tree conds.now)) (seen tree.now)) }
 {
+    if let Shape::Leaf(leaf) = &tree.shape {
+        tables.push(tree.node.table)?;
+        leaves.push(NamedLeaf {
+            id: *leaf,
+            name: &tree.node.name,
+        })?;
+        return Ok(());
+    }
     let before = tables.len();
     let count = leaves.len();
     tables.push(tree.node.table)?;

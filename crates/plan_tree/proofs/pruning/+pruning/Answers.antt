@@ -51,4 +51,4 @@ pub push_led-returns-else-len-count-clause-tables : goal.push_led-returns-else-l
 push_led-returns-else-len-count-clause-tables t c =
     led_behind c.args.leaves.now.items c.push_below.new.leaves.items _ c.args.tables.now.items _ _ (node_of (seen c.args.tree.now)).table _
     (λ e. let off = c.if-len-count.false in let n = c.len.ensures in let m = c.len-count.ensures in grind (arith, nat_tests, off, n, m, e))
-    c.in_ok-push_below.ensures.leaves (c.in_ok-push.ensures.items ∙ ap (λ (n : Node). c.args.tables.now.items ++ n.table ∷ []) (sym (node_seen c.args.tree.now))) c.in_ok-push_below.ensures.tables
+    c.in_ok-push_below.ensures.leaves (c.in_ok-push-3.ensures.items ∙ ap (λ (n : Node). c.args.tables.now.items ++ n.table ∷ []) (sym (node_seen c.args.tree.now))) c.in_ok-push_below.ensures.tables
