@@ -1,5 +1,6 @@
 pub mod Answer
 pub mod Course
+pub mod Executions
 pub mod Happenings
 pub mod HashTables
 pub mod Keys

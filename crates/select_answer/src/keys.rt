@@ -12,12 +12,14 @@ use pg_values::{NoMemory, Row, Value, cmp_any};
 use std::alloc::Global;
 use std::cmp::Ordering;
 
+#[inline]
 fn is_null(value: &Value) -> bool
     ensures { result ≡ truths.is_null value.now }
 {
     matches!(value, Value::Null)
 }
 
+#[inline]
 fn rank_of_null(nulls_first: bool, value: &Value) -> u32
     ensures { result ≡ null_rank nulls_first value.now }
 {
@@ -28,6 +30,7 @@ fn rank_of_null(nulls_first: bool, value: &Value) -> u32
     }
 }
 
+#[inline]
 fn cmp_directed(descending: bool, a: &Value, b: &Value) -> Ordering
     ensures { result ≡ directed descending a.now b.now }
 {
@@ -39,15 +42,20 @@ fn cmp_directed(descending: bool, a: &Value, b: &Value) -> Ordering
 }
 
 // The order of two values of a key.
+#[inline]
 fn cmp_key(key: &SortKey, a: &Value, b: &Value) -> Ordering
     ensures { result ≡ value_order key.now a.now b.now }
 {
-    rank_of_null(key.nulls_first, a)
-        .cmp(&rank_of_null(key.nulls_first, b))
-        .then(cmp_directed(key.descending, a, b))
+    match (a, b) {
+        (Value::Int4(m), Value::Int4(n)) => { if key.descending { n.cmp(m) } else { m.cmp(n) } }
+        _ => rank_of_null(key.nulls_first, a)
+            .cmp(&rank_of_null(key.nulls_first, b))
+            .then(cmp_directed(key.descending, a, b)),
+    }
 }
 
 /// The value at a place, or the null that is passed.
+#[inline]
 pub(crate) fn value_at<'a>(row: &'a Row, place: usize, none: &'a Value) -> &'a Value
     requires { none.now ≡ Null }
     ensures { result.now ≡ slice_index_or row.now place Null }
@@ -59,6 +67,7 @@ pub(crate) fn value_at<'a>(row: &'a Row, place: usize, none: &'a Value) -> &'a V
 }
 
 // The order of two rows by the values of one key.
+#[inline]
 fn cmp_at(key: &SortKey, place: usize, a: &Row, b: &Row) -> Ordering
     ensures { result ≡ value_order key.now (slice_index_or a.now place Null) (slice_index_or b.now place Null) }
 {
@@ -70,10 +79,14 @@ fn cmp_at(key: &SortKey, place: usize, a: &Row, b: &Row) -> Ordering
     )
 }
 
-// The order of two rows by the values of all keys.
+// The order of two rows by the values of all keys. Where there is one, as most often, it is asked without a walk.
+#[inline]
 fn cmp_keys(order: &[SortKey], a: &Row, b: &Row) -> Ordering
     ensures { result ≡ keys_order 0 order.now a.now b.now }
 {
+    if order.len() == 1 {
+        return cmp_at(&order[0], 0, a, b);
+    }
     for (place, key) in order.iter().enumerate() {
         let found = cmp_at(key, place, a, b);
         if found != Ordering::Equal {

@@ -20,6 +20,7 @@
 #![tactic(auto)]
 
 mod answering;
+mod execution;
 mod gathered;
 mod hash_table;
 mod keyed_row;
