@@ -2,7 +2,7 @@
 """Prints the hashes of some values, worked out from the definition alone.
 
 Some of the numbers stand in the tests of store_schedules, and the remainders that they leave in
-examples/hashes.spec. A number is two words of its 64 bits in two's complement, the low one first,
+crates/sql_shell/stdout and examples/hashes.spec. A number is two words of its 64 bits in two's complement, the low one first,
 with length 8; a text is its bytes, filled up with zeros to whole words, with its length in bytes.
 """
 
