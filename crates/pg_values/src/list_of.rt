@@ -29,4 +29,11 @@ impl<T> ListOf<T> {
     {
         &self.items
     }
+
+    /// The parts themselves.
+    pub fn into_vec(self) -> Vec<T>
+        ensures { result.items ≡ self }
+    {
+        self.items
+    }
 }
