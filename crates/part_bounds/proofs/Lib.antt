@@ -1,5 +1,6 @@
 pub mod Counts
 pub mod FindLaws
+pub mod FirstEdges
 pub mod Halves
 pub mod HashLaws
 pub mod LevelStored
