@@ -14,10 +14,10 @@ use Rattle.history.specs.Dead.{IsDead, MayRead}
 use Rattle.history.proofs.Dead.{dead_are_unseen}
 use Rattle.history.proofs.Thinned.{thin_filter}
 use Rattle.tx_table.specs.Kept.{KeptTable, KeptSnapshot}
-use Rattle.tx_table.specs.Stands.{TableStands, SnapshotStands}
+use Rattle.tx_table.specs.Stands.{TableStands, SnapshotStands, sees_by}
 use Rattle.row_store.specs.declared.stored.Stored.{Stored}
 use Rattle.row_store.specs.Kept.{KeptRows, no_id, blank, version_of, stored_at, listed_in, IsOf, AreListed, AreBelow}
-use Rattle.row_store.specs.Stands.{StoreStands, born_in, shows_by, shown_version, shown_stored, rows_left}
+use Rattle.row_store.specs.Stands.{StoreStands, born_in, sees_end_by, shows_by, shown_version, shown_stored, rows_left}
 use Rattle.row_store.proofs.Listing.{at_leaf}
 use Rattle.row_store.proofs.Held.{shows_is}
 use Rattle.row_store.proofs.DeadVersions.{read_past}
@@ -132,6 +132,16 @@ rest_below V i ids (j ∷ js) e below =
     let same : js ≡ ids = cc in
     let P : List RowId → Type 0 = λ x. AreBelow x V in
     subst P same (λ k lt. below (suc k) (omega (arith, lt)))
+
+-- neither a version whose birth is not seen is shown, nor one whose end is seen
+pub unseen_birth : (table : KeptTable) (ks : KeptSnapshot) (x : Stored) → sees_by table ks x.version.by.number x.version.cmd ≡ false → shows_by table ks x ≡ false
+unseen_birth table ks x unseen = rw unseen refl
+
+pub seen_end : (table : KeptTable) (ks : KeptSnapshot) (x : Stored) → sees_end_by table ks x.ended ≡ true → shows_by table ks x ≡ false
+seen_end table ks x ended = elim (cases_Bool (sees_by table ks x.version.by.number x.version.cmd)) [
+  | inl seen ↦ rw (seen, ended) refl
+  | inr unseen ↦ rw unseen refl
+]
 
 -- what is left of a list is no longer than the list
 filter_few : {X : Type 0} (p : X → Bool) (xs : List X) → length (filter p xs) ≤ length xs
