@@ -1,11 +1,12 @@
 -- What comes of asking.
-use Rattle.std.specs.Prelude.{◌≡◌, ℕ, true, ◌∷◌, Option, Some, None}
+use Rattle.std.specs.Prelude.{◌≡◌, ℕ, ◌==◌, ◌&&◌, Bool, true, ◌∷◌, length, Option, Some, None}
 use Rattle.pg_values.specs.Lists.{listed}
-use Rattle.pg_values.specs.Sets.{has}
+use Rattle.pg_values.specs.Sets.{has, nobody}
+use Rattle.pg_values.specs.declared.lock_mode.LockMode.{LockMode}
 use Rattle.pg_values.specs.declared.session_set.SessionSet.{SessionSet}
 use Rattle.history.specs.declared.wait.Wanted.{Wanted}
 use Rattle.history.specs.declared.wait.Wanted.TheVariants.{Lock, Others}
-use Rattle.history.specs.Locks.{LockEvents, LockGot, WaitBegan}
+use Rattle.history.specs.Locks.{LockEvents, LockGot, WaitBegan, holds_against, queue}
 use Rattle.history.specs.Waits.{is_cause, waits_with, IsFree, ClosesNone, IsLeastCycle}
 use Rattle.history.specs.History.{History, LockChange}
 use Rattle.lock_table.specs.declared.asked.Asked.{Asked}
@@ -16,6 +17,10 @@ pub record IsBehind (h : LockEvents) (s : ℕ) (w : Wanted) (behind : SessionSet
   pub all : (y : ℕ) → has behind y ≡ is_cause h s w y
   pub some : (y : ℕ) × (is_cause h s w y ≡ true)
   pub acyclic : ClosesNone h s w
+
+-- nobody waits, and nobody holds a mode on the table that conflicts with m
+abbrev pub unopposed : LockEvents → ℕ → LockMode → Bool
+unopposed h t m = (length (queue h) == 0) && nobody (λ y. holds_against h y t m)
 
 -- the answer to a session that asks
 abbrev pub IsAnswer : LockEvents → ℕ → Wanted → Asked → Type 0

@@ -1,4 +1,4 @@
-ghost use Rattle.std.specs.Prelude.{◌≡◌, ℕ, ◌+◌, ◌*◌, ◌≤◌, ◌<◌, ◌==◌, ◌&&◌, ◌||◌, true, List, Option, Some, None, IfSome, length, slice_index_or, nat_eq};
+ghost use Rattle.std.specs.Prelude.{◌≡◌, ℕ, ◌+◌, ◌*◌, ◌≤◌, ◌<◌, ◌==◌, ◌&&◌, ◌||◌, true, false, List, Option, Some, None, IfSome, length, slice_index_or, nat_eq};
 ghost use Rattle.std.specs.List.{list_any};
 ghost use Rattle.pg_values.specs.Modes.{rank};
 ghost use Rattle.pg_values.specs.Sets.{has, empty};
@@ -7,6 +7,7 @@ ghost use Rattle.history.specs.declared.wait.Wanted.{Wanted};
 ghost use Rattle.history.specs.declared.wait.Wanted.TheVariants.{Lock};
 ghost use Rattle.history.specs.Locks.{LockEvents, wanted, holds_one_of, holds_against};
 ghost use Rattle.history.specs.Waits.{wants_against, stands_against, is_cause, waits_for, ready};
+ghost use Rattle.lock_table.specs.Answers.{unopposed};
 ghost use Rattle.lock_table.specs.Kept.{held_at};
 ghost use Rattle.lock_table.specs.Stands.{Tells};
 
@@ -14,6 +15,7 @@ use history::{WaitOn, Wanted};
 use pg_values::{LockMode, SessionSet, TableNo};
 
 // The place of those who hold the mode on the table.
+#[inline(always)]
 pub(crate) fn place(table: u32, mode: LockMode) -> usize
     ensures { result ≡ 8 * table + rank mode }
 {
@@ -21,6 +23,7 @@ pub(crate) fn place(table: u32, mode: LockMode) -> usize
 }
 
 // The set at the place, and past the end the empty one.
+#[inline(always)]
 pub(crate) fn nth_set(sets: &[SessionSet], place: usize) -> SessionSet
     ensures { result ≡ slice_index_or sets.now place empty }
 {
@@ -31,6 +34,7 @@ pub(crate) fn nth_set(sets: &[SessionSet], place: usize) -> SessionSet
 }
 
 // Who holds the mode on the table.
+#[inline(always)]
 pub(crate) fn set_at(held: &[SessionSet], table: u32, mode: LockMode) -> SessionSet
     ensures { result ≡ held_at held.now table mode }
 {
@@ -38,6 +42,7 @@ pub(crate) fn set_at(held: &[SessionSet], table: u32, mode: LockMode) -> Session
 }
 
 // Who holds one of the modes on the table.
+#[inline(always)]
 pub(crate) fn holding(held: &[SessionSet], table: u32, modes: &[LockMode]) -> SessionSet
     ensures { (h : LockEvents) (ws : List (Option Wanted)) (q : List ℕ) → Tells held.now ws q h →
         (y : ℕ) → has result y ≡ holds_one_of h y table modes.now }
@@ -50,6 +55,7 @@ pub(crate) fn holding(held: &[SessionSet], table: u32, modes: &[LockMode]) -> Se
 }
 
 // Who holds a mode on the table that conflicts with this one.
+#[inline(always)]
 fn against(held: &[SessionSet], table: u32, mode: LockMode) -> SessionSet
     ensures { (h : LockEvents) (ws : List (Option Wanted)) (q : List ℕ) → Tells held.now ws q h →
         (y : ℕ) → has result y ≡ holds_against h y table mode }
@@ -174,6 +180,16 @@ fn standing(
         found = joined(found, held, waits, x, table, mode, *y);
     }
     found.without(x)
+}
+
+// Whether nobody waits, and nobody holds a mode on the table that conflicts with this one.
+#[inline(always)]
+pub(crate) fn is_unopposed(held: &[SessionSet], queue: &[u32], table: u32, mode: LockMode) -> bool
+    ensures is { (h : LockEvents) (ws : List (Option Wanted)) → Tells held.now ws queue.now h → result ≡ unopposed h table mode }
+    ensures none { result ≡ true → (h : LockEvents) (ws : List (Option Wanted)) → Tells held.now ws queue.now h →
+        (x y : ℕ) → stands_against h x table mode y ≡ false }
+{
+    queue.is_empty() && against(held, table, mode).is_empty()
 }
 
 // The causes that x has to wait for what it wants.

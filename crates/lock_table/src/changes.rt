@@ -12,6 +12,7 @@ use history::{WaitOn, Wanted};
 use pg_values::{LockMode, SessionSet};
 
 // The sets reach beyond the place, with empty ones where they did not.
+#[inline(always)]
 fn reach(held: &mut Vec<SessionSet>, place: usize)
     requires { place < vec_capacity held.old }
     ensures beyond { place < length held.new.items }
@@ -24,6 +25,7 @@ fn reach(held: &mut Vec<SessionSet>, place: usize)
 }
 
 // Whether somebody holds the mode of this place.
+#[inline(always)]
 fn is_taken(held: &[SessionSet], place: usize) -> bool
     ensures { result ≡ not (is_empty_at held.now place) }
 {
@@ -31,6 +33,7 @@ fn is_taken(held: &[SessionSet], place: usize) -> bool
 }
 
 // The place is listed, where nobody holds its mode yet.
+#[inline(always)]
 fn list_place(held: &[SessionSet], taken: &mut Vec<usize>, place: usize)
     requires room { place < vec_capacity taken.old }
     requires taken { AreTaken held.now taken.old.items (vec_capacity taken.old) }
@@ -43,6 +46,7 @@ fn list_place(held: &[SessionSet], taken: &mut Vec<usize>, place: usize)
 }
 
 // The session gets the mode on the table.
+#[inline(always)]
 pub(crate) fn put(
     held: &mut Vec<SessionSet>,
     taken: &mut Vec<usize>,
@@ -67,6 +71,7 @@ pub(crate) fn put(
 }
 
 // The session gets the lock that it waited for.
+#[inline(always)]
 pub(crate) fn grant(
     held: &mut Vec<SessionSet>,
     taken: &mut Vec<usize>,

@@ -1,18 +1,18 @@
-ghost use Rattle.std.specs.Prelude.{◌≡◌, ◌≢◌, ℕ, ◌≤◌, ◌<◌, ◌==◌, ◌&&◌, ◌||◌, false, List, [], ◌∷◌, Some, None, IfOk, IfSome, length, slice_index_or, nat_eq};
+ghost use Rattle.std.specs.Prelude.{◌≡◌, ◌≢◌, ℕ, ◌≤◌, ◌<◌, ◌==◌, ◌&&◌, ◌||◌, true, false, List, [], ◌∷◌, Some, None, IfOk, IfSome, length, slice_index_or, nat_eq};
 ghost use Rattle.std.specs.List.{list_any};
 ghost use Rattle.pg_values.specs.Lists.{listed};
 ghost use Rattle.pg_values.specs.Sets.{has};
 ghost use Rattle.history.specs.declared.wait.Wanted.TheVariants.{Lock, Others};
 ghost use Rattle.pg_values.specs.declared.lock_mode.LockMode.{LockMode as Mode};
 ghost use Rattle.history.specs.Locks.{LockEvents, LocksGivenUp, SnapshotGone, WaitResumed, WaitWithdrawn, wanted, is_lock, holds, holds_any, after_end, after_snapshot};
-ghost use Rattle.history.specs.Waits.{is_cause, waits_for, ready, IsCycle, IsLeastCycle};
+ghost use Rattle.history.specs.Waits.{stands_against, is_cause, waits_for, ready, IsCycle, IsLeastCycle};
 ghost use Rattle.history.specs.History.{History, LockChange, lock_events};
 ghost use Rattle.lock_table.specs.Kept.{held_at};
-ghost use Rattle.lock_table.specs.Answers.{IsAnswer, after, left_waiting};
+ghost use Rattle.lock_table.specs.Answers.{IsAnswer, after, left_waiting, unopposed};
 ghost use Rattle.lock_table.specs.Stands.{TableStands, Tells, SameSize, IsIdle, OthersWait, IsKnown, names, kept_of, waiting, over};
 
 use crate::Asked;
-use crate::causes::{causes, first_ready, holding, set_at, want_of};
+use crate::causes::{causes, first_ready, holding, is_unopposed, set_at, want_of};
 use crate::changes::{clear_ends, clear_held, clear_snapshots, grant};
 use crate::cycle::{least_cycle, rows_of};
 use history::{WaitOn, Wanted};
@@ -119,7 +119,31 @@ impl LockTable {
         ensures others { OthersWait session self.old self.new }
         ensures size { SameSize self.old self.new }
     {
+        if self.take_unopposed(session, table, mode) {
+            return Asked::Granted;
+        }
         self.ask(session, Wanted::Lock { table, mode })
+    }
+
+    /// A session that does not wait gets a lock at once, where nobody waits and nobody holds a mode on the
+    /// table that conflicts. It says whether it was so; else nothing has changed, and the session may ask.
+    #[inline(always)]
+    pub fn take_unopposed(&mut self, session: u32, table: TableNo, mode: LockMode) -> bool
+        requires session { session < length self.old.wants }
+        requires table { table.number < self.old.tables }
+        requires idle { IsIdle self.old session }
+        ensures is { (h : History) → TableStands self.old h → result ≡ unopposed (lock_events h) table.number mode }
+        ensures answer { result ≡ true → (h : History) → TableStands self.old h → IsAnswer (lock_events h) session (Lock table mode) Asked.Granted }
+        ensures added { result ≡ true → (h : History) → TableStands self.old h → TableStands self.new (after session (Lock table mode) Asked.Granted h) }
+        ensures same { result ≡ false → self.new ≡ self.old }
+        ensures waits { self.new.wants ≡ self.old.wants }
+        ensures tables { self.new.tables ≡ self.old.tables }
+    {
+        if self.is_unopposed(table, mode) {
+            self.give(session, Some(Wanted::Lock { table, mode }));
+            return true;
+        }
+        false
     }
 
     /// A session that does not wait asks to go on when other sessions have given something up.
@@ -137,6 +161,17 @@ impl LockTable {
         self.ask(session, Wanted::Others(what))
     }
 
+    // Whether nobody waits, and nobody holds a mode on the table that conflicts with this one.
+    #[inline(always)]
+    fn is_unopposed(&self, table: TableNo, mode: LockMode) -> bool
+        ensures is { (h : LockEvents) → Tells self.now.held self.now.wants self.now.queue h → result ≡ unopposed h table.number mode }
+        ensures none { result ≡ true → (h : LockEvents) → Tells self.now.held self.now.wants self.now.queue h →
+            (x y : ℕ) → stands_against h x table.number mode y ≡ false }
+    {
+        is_unopposed(&self.held, &self.queue, table.number, mode)
+    }
+
+    #[inline(never)]
     fn ask(&mut self, session: u32, want: Wanted) -> Asked
         requires session { session < length self.old.wants }
         requires idle { IsIdle self.old session }
@@ -181,6 +216,7 @@ impl LockTable {
     }
 
     // The session gets the lock that it wants, if it wants one.
+    #[inline(always)]
     fn give(&mut self, session: u32, want: Option<Wanted>)
         requires session { session < length self.old.wants }
         requires known { IsKnown self.old.tables want }

@@ -1,8 +1,8 @@
-ghost use Rattle.std.specs.Prelude.{◌≡◌, ◌<◌, false, Some, None, length, slice_index_or};
+ghost use Rattle.std.specs.Prelude.{◌≡◌, ◌<◌, true, false, Some, None, length, slice_index_or};
 ghost use Rattle.history.specs.declared.wait.Wanted.TheVariants.{Lock, Others};
 ghost use Rattle.history.specs.Waits.{ready};
 ghost use Rattle.history.specs.History.{History, tx_events, catalogue_events, lock_events};
-ghost use Rattle.lock_table.specs.Answers.{IsAnswer, after, left_waiting};
+ghost use Rattle.lock_table.specs.Answers.{IsAnswer, after, left_waiting, unopposed};
 ghost use Rattle.lock_table.specs.Stands.{TableStands, IsIdle, OthersWait, names};
 ghost use Rattle.soundness.specs.Parts.{IsKnown};
 ghost use Rattle.stores.specs.Events.{withdrawn, resumed};
@@ -30,6 +30,25 @@ impl Stores {
         ensures size { IsSameSize self.old self.new }
     {
         self.locks.request(session, table, mode)
+    }
+
+    /// A session that does not wait gets a lock at once, where nobody waits and nobody holds a mode on the
+    /// table that conflicts. It says whether it was so; else nothing has changed, and the session may ask.
+    #[inline(always)]
+    pub fn take_unopposed(&mut self, session: u32, table: TableNo, mode: LockMode) -> bool
+        requires session { session < length self.old.locks.wants }
+        requires table { table.number < self.old.locks.tables }
+        requires idle { IsIdle self.old.locks session }
+        ensures is { (h : History) → AllStand self.old h → result ≡ unopposed (lock_events h) table.number mode }
+        ensures answer { result ≡ true → (h : History) → AllStand self.old h → IsAnswer (lock_events h) session (Lock table mode) Asked.Granted }
+        ensures good { result ≡ true → (h : History) → Stands self.old h → IsKnown (tx_events h) (catalogue_events h) session table.number →
+            Stands self.new (after session (Lock table mode) Asked.Granted h) }
+        ensures same { result ≡ false → self.new ≡ self.old }
+        ensures waits { self.new.locks.wants ≡ self.old.locks.wants }
+        ensures rest { self.new ≡ record self.old { locks = self.new.locks } }
+        ensures size { IsSameSize self.old self.new }
+    {
+        self.locks.take_unopposed(session, table, mode)
     }
 
     /// A session that does not wait asks to go on when other sessions have given something up.
