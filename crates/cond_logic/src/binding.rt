@@ -39,6 +39,7 @@ impl<'a> Binding<'a> {
     }
 
     /// The same binding with the row in the place of that item. There is no place past the fourth.
+    #[inline]
     pub fn with(self, item: u32, row: &'a Row) -> Binding<'a>
         ensures args { result.args ≡ self.entry.args }
         ensures rows { result.rows ≡ put self.entry.rows item row.now }
@@ -54,7 +55,23 @@ impl<'a> Binding<'a> {
         bound
     }
 
+    /// The row takes the place of that item. There is no place past the fourth.
+    #[inline]
+    pub fn put(&mut self, item: u32, row: &'a Row)
+        ensures args { self.new.args ≡ self.old.args }
+        ensures rows { self.new.rows ≡ put self.old.rows item row.now }
+    {
+        match item {
+            0 => self.first = Some(row),
+            1 => self.second = Some(row),
+            2 => self.third = Some(row),
+            3 => self.fourth = Some(row),
+            _ => {}
+        }
+    }
+
     /// The same binding once more.
+    #[inline]
     pub fn again(&self) -> Binding<'a>
         ensures args { result.args ≡ self.now.args }
         ensures rows { result.rows ≡ self.now.rows }
@@ -69,6 +86,7 @@ impl<'a> Binding<'a> {
     }
 
     /// The row in the place of that item.
+    #[inline]
     pub fn row(&self, item: u32) -> Option<&'a Row>
         ensures { lent result ≡ place self.now.rows item }
     {
@@ -81,6 +99,7 @@ impl<'a> Binding<'a> {
         }
     }
 
+    #[inline]
     pub fn args(&self) -> &'a [Value]
         ensures { result.now ≡ self.now.args }
     {

@@ -25,6 +25,7 @@ fn order(a: &Value, b: &Value) -> Option<Ordering>
     }
 }
 
+#[inline]
 fn passes(op: CompareOp, order: Ordering) -> bool
     ensures { result ≡ passes_by op order }
 {
@@ -38,7 +39,19 @@ fn passes(op: CompareOp, order: Ordering) -> bool
     }
 }
 
+// Two integers are compared without a look at other kinds.
+#[inline]
 fn compare(op: CompareOp, a: &Value, b: &Value) -> Truth3
+    ensures { result ≡ compared op a.now b.now }
+{
+    match (a, b) {
+        (Value::Int4(m), Value::Int4(n)) => Truth3::decided(passes(op, m.cmp(n))),
+        _ => compare_kinds(op, a, b),
+    }
+}
+
+#[inline(never)]
+fn compare_kinds(op: CompareOp, a: &Value, b: &Value) -> Truth3
     ensures { result ≡ compared op a.now b.now }
 {
     match order(a, b) {
@@ -48,6 +61,7 @@ fn compare(op: CompareOp, a: &Value, b: &Value) -> Truth3
 }
 
 // The value of an operand. None stands for null.
+#[inline]
 fn operand<'b>(binding: &'b Binding<'_>, operand: &'b Operand) -> Option<&'b Value>
     ensures { or_null result ≡ value_of binding.now.rows binding.now.args operand.now }
 {
@@ -61,6 +75,7 @@ fn operand<'b>(binding: &'b Binding<'_>, operand: &'b Operand) -> Option<&'b Val
     }
 }
 
+#[inline]
 fn compare_operands(binding: &Binding<'_>, op: CompareOp, x: &Operand, y: &Operand) -> Truth3
     ensures { result ≡ compared op (value_of binding.now.rows binding.now.args x.now) (value_of binding.now.rows binding.now.args y.now) }
 {
@@ -84,14 +99,25 @@ fn is_null(binding: &Binding<'_>, x: &Operand) -> bool
 
 /// The truth of a condition for the rows and the arguments of a binding. A row, a column or an argument
 /// that is not there counts as null. Takes no memory.
+#[inline]
 pub fn eval(cond: &Cond, binding: &Binding<'_>) -> Truth3
+    ensures { result ≡ truth binding.now.rows binding.now.args (cond_tree cond.now) }
+{
+    match cond {
+        Cond::Compare(op, x, y) => compare_operands(binding, *op, x, y),
+        _ => eval_tree(cond, binding),
+    }
+}
+
+// Goes down the tree of a condition.
+fn eval_tree(cond: &Cond, binding: &Binding<'_>) -> Truth3
     ensures { result ≡ truth binding.now.rows binding.now.args (cond_tree cond.now) }
 {
     match cond {
         Cond::And(list) => {
             let mut all = Truth3::Yes;
             for part in &list.conds {
-                all = all.least(eval(part, &*binding));
+                all = all.least(eval_tree(part, &*binding));
                 if matches!(all, Truth3::No) {
                     return Truth3::No;
                 }
@@ -101,14 +127,14 @@ pub fn eval(cond: &Cond, binding: &Binding<'_>) -> Truth3
         Cond::Or(list) => {
             let mut any = Truth3::No;
             for choice in &list.conds {
-                any = any.greatest(eval(choice, &*binding));
+                any = any.greatest(eval_tree(choice, &*binding));
                 if matches!(any, Truth3::Yes) {
                     return Truth3::Yes;
                 }
             }
             any
         }
-        Cond::Not(inner) => eval(inner, binding).opposite(),
+        Cond::Not(inner) => eval_tree(inner, binding).opposite(),
         Cond::Compare(op, x, y) => compare_operands(binding, *op, x, y),
         Cond::IsNull(x) => Truth3::decided(is_null(binding, x)),
         Cond::Const(known) => *known,

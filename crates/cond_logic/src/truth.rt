@@ -44,6 +44,7 @@ impl Truth3 {
     }
 
     /// The truth of a test that is never unknown.
+    #[inline]
     pub fn decided(b: bool) -> Self
         ensures { result ≡ decided b }
     {

@@ -1,7 +1,7 @@
 use Rattle.std.proofs.Common.{◌≡◌, drop, map}
 use Rattle.cond_logic.specs.Trees.{cond_tree, listed}
 use Rattle.cond_logic.specs.Truths.{truth, least, greatest, least_of, greatest_of}
-use Rattle.cond_logic.proofs.evaluate.+eval.Given as goal
+use Rattle.cond_logic.proofs.evaluate.+eval_tree.Given as goal
 
 -- the truth so far and that of the rest make the truth of all
 abbrev pub invariant-loop-part : goal.invariant-loop-part
