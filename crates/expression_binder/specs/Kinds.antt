@@ -109,10 +109,14 @@ abbrev pub given_by : Option Kind → Given
 given_by None = Nothing
 given_by (Some k) = Of k
 
+-- what an operator makes of two operands
+abbrev pub given_made : Operator → Given → Given → Given
+given_made o x y = given_by (kind_made o (kind_beside o y x) (kind_beside o x y))
+
 -- what an operator makes of its sides
 abbrev pub joined : Operator → Typed → Typed → Typed
 joined o x y = record {
-  given = given_by (kind_made o (kind_beside o y.given x.given) (kind_beside o x.given y.given));
+  given = given_made o x.given y.given;
   varies = x.varies || y.varies;
 }
 

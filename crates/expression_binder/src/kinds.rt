@@ -81,7 +81,8 @@ fn difference_made(left: Kind, right: Kind) -> Option<Kind>
     }
 }
 
-fn kind_made(operator: Operator, left: Kind, right: Kind) -> Option<Kind>
+/// What the operator makes of the two kinds, where it is listed for them.
+pub fn kind_made(operator: Operator, left: Kind, right: Kind) -> Option<Kind>
     ensures { result ≡ kinds.kind_made operator left right }
 {
     match operator {
@@ -171,14 +172,21 @@ fn given_by(kind: Option<Kind>) -> Given
     }
 }
 
+/// What an operator makes of two operands.
+pub fn given_made(operator: Operator, left: Given, right: Given) -> Given
+    ensures { result ≡ kinds.given_made operator left right }
+{
+    let x = kind_beside(operator, right, left);
+    let y = kind_beside(operator, left, right);
+    given_by(kind_made(operator, x, y))
+}
+
 /// What an operator makes of its sides.
 pub(crate) fn joined(operator: Operator, left: Typed, right: Typed) -> Typed
     ensures { result ≡ kinds.joined operator left right }
 {
-    let x = kind_beside(operator, right.given, left.given);
-    let y = kind_beside(operator, left.given, right.given);
     Typed {
-        given: given_by(kind_made(operator, x, y)),
+        given: given_made(operator, left.given, right.given),
         varies: left.varies || right.varies,
     }
 }
@@ -216,7 +224,7 @@ pub(crate) fn check_join(
 }
 
 /// What an operator makes of its sides, where they may be joined.
-pub(crate) fn check_joined(
+pub fn check_joined(
     alloc: Global,
     allowed: Allowed,
     operator: Operator,

@@ -24,10 +24,13 @@ mod typed;
 
 pub use conditions::check_condition;
 pub use constants::as_literal;
-pub use kinds::{check_assigned, check_count, check_counting, is_arithmetic, kind_alone};
+pub use kinds::{
+    check_assigned, check_count, check_counting, check_joined, given_made, is_arithmetic,
+    kind_alone, kind_made,
+};
 pub use meanings::bind_condition;
 pub use naming::{Hit, Lookup, item_called, look_up, look_up_in};
-pub use operands::{check_item, check_look_up, check_operand, check_own, typed_of};
+pub use operands::{check_item, check_look_up, check_operand, check_own, typed_of, zero_typed};
 pub use scalars::{bind_constant, bind_scalar, store};
 pub use scope::{Allowed, Names, Param, ScopeColumn, ScopeItem, condition_names, nothing_more};
 pub use typed::{Given, Typed};

@@ -254,7 +254,8 @@ fn check_star(alloc: Global, function: &[u8]) -> Result<(), Refusal>
     Err(Refusal::Sql(no_function(alloc, function)?))
 }
 
-pub(crate) fn zero_typed() -> Typed
+/// The 0 that a minus takes its operand from.
+pub fn zero_typed() -> Typed
     ensures { result ≡ operands.zero_typed }
 {
     fixed(Given::Of(Kind::Int4))

@@ -10,7 +10,7 @@ use Rattle.sql_ast.specs.declared.leaf.Operator.TheVariants as op
 use Rattle.sql_ast.specs.Expressions.{Tree, Trees, no_more, and_more, leaf, call, call_of_all, negated, binary, in_list, between, is_null, inverted, all_of, any_of}
 use Rattle.expression_binder.specs.declared.typed.Given.{Given}
 use Rattle.expression_binder.specs.declared.typed.Given.TheVariants.{Of, Quoted, Nothing}
-use Rattle.expression_binder.specs.Kinds.{kind_made, kind_beside, given_by, is_arithmetic}
+use Rattle.expression_binder.specs.Kinds.{given_made, kind_made, is_arithmetic}
 use Rattle.expression_binder.specs.Operands.{leaf_typed, call_typed, is_cancel}
 use Rattle.expression_binder.specs.Scopes.{Scope}
 
@@ -24,16 +24,12 @@ abbrev pub leaf_given : Scope → List Given → Leaf → Given
 leaf_given s gs (Parameter n) = param_given gs n
 leaf_given s gs l = (leaf_typed s l).given
 
--- what an operator makes of two operands
-abbrev pub operated : Operator → Given → Given → Given
-operated o x y = given_by (kind_made o (kind_beside o y x) (kind_beside o x y))
-
 abbrev pub given : Scope → List Given → Tree → Given
 given s gs (leaf l) = leaf_given s gs l
 given s gs (call f ts) = (call_typed f).given
 given s gs (call_of_all f) = Nothing
-given s gs (negated e) = operated op.Subtract (Of KInt4) (given s gs e)
-given s gs (binary o x y) = operated o (given s gs x) (given s gs y)
+given s gs (negated e) = given_made op.Subtract (Of KInt4) (given s gs e)
+given s gs (binary o x y) = given_made o (given s gs x) (given s gs y)
 given s gs (in_list b x ts) = Nothing
 given s gs (between b x y z) = Nothing
 given s gs (is_null b x) = Nothing

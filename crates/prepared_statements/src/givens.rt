@@ -2,8 +2,8 @@ ghost use Rattle.std.specs.Prelude.{◌≡◌, map};
 ghost use Rattle.sql_ast.specs.Expressions.{tree, listed};
 ghost use Rattle.prepared_statements.specs.ParameterPlaces as places;
 
-use crate::arithmetic::{operated, own_kind};
-use expression_binder::{Given, Names, typed_of};
+use crate::arithmetic::own_kind;
+use expression_binder::{Given, Names, given_made, typed_of};
 use pg_values::Kind;
 use sql_ast::{Expr, Leaf, Operator};
 
@@ -31,12 +31,12 @@ pub(crate) fn given_of(names: &Names<'_>, givens: &[Given], e: &Expr) -> Given
             Leaf::Parameter(n) => param_given(givens, *n),
             _ => typed_of(names, e).given,
         },
-        Expr::Negated(x) => operated(
+        Expr::Negated(x) => given_made(
             Operator::Subtract,
             Given::Of(Kind::Int4),
             given_of(names, givens, x),
         ),
-        Expr::Binary(operator, x, y) => operated(
+        Expr::Binary(operator, x, y) => given_made(
             *operator,
             given_of(names, givens, x),
             given_of(names, givens, y),

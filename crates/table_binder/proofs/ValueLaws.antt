@@ -5,10 +5,16 @@ use Rattle.pg_values.specs.declared.fault.Refusal.{Refusal}
 use Rattle.pg_values.specs.Refusals.{IsAnswer}
 use Rattle.sql_ast.specs.Expressions.{Tree, Trees, no_more, and_more, leaf, call, call_of_all, negated, binary, in_list, between, is_null, inverted, all_of, any_of}
 use Rattle.expression_binder.specs.Firsts.{or_first}
-use Rattle.expression_binder.specs.Operands.{operand_faults, operands_faults, own_faults}
+use Rattle.expression_binder.specs.Kinds.{join_faults, joined}
+use Rattle.expression_binder.specs.Operands.{operand_faults, operands_faults, own_faults, typed, zero_typed}
+use Rattle.expression_binder.specs.Scopes.{nothing_more}
+use Rattle.expression_binder.specs.declared.scope.Allowed.{Allowed}
+use Rattle.expression_binder.specs.declared.typed.Typed.{Typed}
+use Rattle.sql_ast.specs.declared.leaf.Operator.{Operator}
+use Rattle.sql_ast.specs.declared.leaf.Operator.TheVariants as op
 use Rattle.expression_binder.specs.Operands as operands
-use Rattle.expression_binder.proofs.Checked.{operand_split}
-use Rattle.expression_binder.proofs.Firsts.{none_found, here}
+use Rattle.expression_binder.proofs.Checked.{operand_split, negated_decides, binary_decides}
+use Rattle.expression_binder.proofs.Firsts.{none_found, here, behind, first_still, value_still, value_of}
 use Rattle.table_binder.specs.Values.{no_names, value_faults, values_faults, inner_faults}
 
 none_left : (fs rest : List Fault) → fs ++ rest ≡ [] → fs ≡ []
@@ -59,13 +65,45 @@ inner_none (all_of ts) h = values_none ts h
 inner_none (any_of ts) h = values_none ts h
 
 -- a fault of a part is the first
-pub inner_first : (t : Tree) (e : Refusal) → IsAnswer {T = Unit {0}} (Err e) (or_first (inner_faults t) tt) → IsAnswer {T = Unit {0}} (Err e) (or_first (value_faults t) tt)
-inner_first t e h = subst (λ fs. IsAnswer {T = Unit {0}} (Err e) (or_first fs tt)) (sym (value_split t)) (here e (inner_faults t) (operand_faults no_names t) tt tt h)
+pub inner_first : (t : Tree) (v : Typed) (e : Refusal) → IsAnswer {T = Unit {0}} (Err e) (or_first (inner_faults t) tt) → IsAnswer {T = Typed} (Err e) (or_first (value_faults t) v)
+inner_first t v e h = subst (λ fs. IsAnswer {T = Typed} (Err e) (or_first fs v)) (sym (value_split t)) (here e (inner_faults t) (operand_faults no_names t) tt v h)
 
 -- and parts that have none leave the whole to decide
-pub own_decides : (t : Tree) (u : Unit {0}) (r : Result (Unit {0}) Refusal) → or_first (inner_faults t) tt ≡ Ok u → IsAnswer r (or_first (own_faults no_names t) tt) → IsAnswer r (or_first (value_faults t) tt)
-own_decides t u r p h =
+own_alone : (t : Tree) (u : Unit {0}) → or_first (inner_faults t) tt ≡ Ok u → value_faults t ≡ own_faults no_names t
+own_alone t u p =
     let none : inner_faults t ≡ [] = none_found (inner_faults t) tt u p in
     let whole : operand_faults no_names t ≡ own_faults no_names t = operand_split no_names t ∙ ap (λ (fs : List Fault). fs ++ own_faults no_names t) (inner_none t none) in
-    let all : value_faults t ≡ own_faults no_names t = value_split t ∙ ap (λ (fs : List Fault). fs ++ operand_faults no_names t) none ∙ whole in
-    subst (λ fs. IsAnswer r (or_first fs tt)) (sym all) h
+    value_split t ∙ ap (λ (fs : List Fault). fs ++ operand_faults no_names t) none ∙ whole
+
+pub own_first : (t : Tree) (v : Typed) (u : Unit {0}) (e : Refusal) → or_first (inner_faults t) tt ≡ Ok u → IsAnswer {T = Unit {0}} (Err e) (or_first (own_faults no_names t) tt)
+    → IsAnswer {T = Typed} (Err e) (or_first (value_faults t) v)
+own_first t v u e p h = subst (λ fs. IsAnswer {T = Typed} (Err e) (or_first fs v)) (sym (own_alone t u p)) (first_still e (own_faults no_names t) tt v h)
+
+pub own_typed : (t : Tree) (v : Typed) (u w : Unit {0}) → or_first (inner_faults t) tt ≡ Ok u → or_first (own_faults no_names t) tt ≡ Ok w → v ≡ typed no_names t → or_first (value_faults t) (typed no_names t) ≡ Ok v
+own_typed t v u w p q e = subst (λ fs. or_first fs (typed no_names t) ≡ Ok v) (sym (own_alone t u p)) (value_still (own_faults no_names t) tt w (typed no_names t) v q e)
+
+-- a side without a fault as a value has its kind as an operand
+typed_side : (x : Tree) (v : Typed) → or_first (value_faults x) (typed no_names x) ≡ Ok v → or_first (operand_faults no_names x) (typed no_names x) ≡ Ok v
+typed_side x v h =
+    let own = value_of (value_faults x) (typed no_names x) v h in
+    let none : operand_faults no_names x ≡ [] = value_none x own.0 in
+    rw none (ap Ok own.1)
+
+behind_sides : (t : Tree) (r : Result Typed Refusal) → inner_faults t ≡ [] → IsAnswer r (or_first (operand_faults no_names t) (typed no_names t)) → IsAnswer r (or_first (value_faults t) (typed no_names t))
+behind_sides t r none h =
+    subst (λ fs. IsAnswer r (or_first fs (typed no_names t))) (sym (value_split t)) (behind r (inner_faults t) (operand_faults no_names t) (typed no_names t) none h)
+
+-- behind sides that have none an operator decides
+pub value_negated : (x t : Tree) (a : Allowed) (z v : Typed) (r : Result Typed Refusal) → a ≡ nothing_more → z ≡ zero_typed → t ≡ negated x → or_first (value_faults x) (typed no_names x) ≡ Ok v
+    → IsAnswer r (or_first (join_faults a op.Subtract z v) (joined op.Subtract z v)) → IsAnswer r (or_first (value_faults t) (typed no_names t))
+value_negated x t a z v r p q e h k =
+    let own = value_of (value_faults x) (typed no_names x) v h in
+    behind_sides t r (ap inner_faults e ∙ own.0) (negated_decides no_names x t a z v r p q e (typed_side x v h) k)
+
+pub value_binary : (o : Operator) (x y t : Tree) (a : Allowed) (v w : Typed) (r : Result Typed Refusal) → a ≡ nothing_more → t ≡ binary o x y → or_first (value_faults x) (typed no_names x) ≡ Ok v
+    → or_first (value_faults y) (typed no_names y) ≡ Ok w → IsAnswer r (or_first (join_faults a o v w) (joined o v w)) → IsAnswer r (or_first (value_faults t) (typed no_names t))
+value_binary o x y t a v w r p e h i k =
+    let left = value_of (value_faults x) (typed no_names x) v h in
+    let right = value_of (value_faults y) (typed no_names y) w i in
+    let none : value_faults x ++ value_faults y ≡ [] = ap (λ (fs : List Fault). fs ++ value_faults y) left.0 ∙ right.0 in
+    behind_sides t r (ap inner_faults e ∙ none) (binary_decides no_names o x y t a v w r p e (typed_side x v h) (typed_side y w i) k)

@@ -2,13 +2,17 @@ ghost use Rattle.std.specs.Prelude.{◌≡◌, ◌++◌, map, IfOk};
 ghost use Rattle.pg_values.specs.Refusals.{IsAnswer};
 ghost use Rattle.sql_ast.specs.Expressions.{tree, listed};
 ghost use Rattle.expression_binder.specs.Firsts.{or_first};
+ghost use Rattle.expression_binder.specs.Operands as operands;
 ghost use Rattle.table_binder.specs.Values as spec;
 
 use crate::RawValue;
-use expression_binder::{Names, bind_constant, check_own, condition_names, kind_alone, typed_of};
+use expression_binder::{
+    Names, Typed, bind_constant, check_joined, check_own, condition_names, kind_alone,
+    nothing_more, typed_of, zero_typed,
+};
 use pg_values::{Fault, NoMemory, Refusal, Value};
 use refusals::left_out;
-use sql_ast::{Expr, Leaf};
+use sql_ast::{Expr, Leaf, Operator};
 use std::alloc::Global;
 
 fn no_names() -> Names<'static>
@@ -87,23 +91,51 @@ fn check_inner(alloc: Global, e: &Expr) -> Result<(), Refusal>
     }
 }
 
-// The first fault of names and kinds: 0A000 for what has no place in a bound, 42883. The parts are judged once, and
-// behind them the whole by itself.
+// The first fault of names and kinds, else the kind, for which each part is gone over once.
+#[cycle(check)]
+fn check_typed(alloc: Global, e: &Expr) -> Result<Typed, Refusal>
+    ensures { IsAnswer result (or_first (spec.value_faults (tree e.now)) (operands.typed spec.no_names (tree e.now))) }
+{
+    match e {
+        Expr::Negated(x) => {
+            let right = check_typed(alloc, x)?;
+            check_joined(
+                alloc,
+                nothing_more(),
+                Operator::Subtract,
+                zero_typed(),
+                right,
+            )
+        }
+        Expr::Binary(operator, x, y) => {
+            let left = check_typed(alloc, x)?;
+            let right = check_typed(alloc, y)?;
+            check_joined(alloc, nothing_more(), *operator, left, right)
+        }
+        _ => {
+            let names = no_names();
+            check_inner(alloc, e)?;
+            check_own(alloc, &names, e)?;
+            Ok(typed_of(&names, e))
+        }
+    }
+}
+
+// The first fault of names and kinds: 0A000 for what has no place in a bound, 42883.
 #[cycle(check)]
 fn check_value(alloc: Global, e: &Expr) -> Result<(), Refusal>
     ensures { IsAnswer result (or_first (spec.value_faults (tree e.now)) tt) }
 {
-    check_inner(alloc, e)?;
-    check_own(alloc, &no_names(), e)
+    check_typed(alloc, e)?;
+    Ok(())
 }
 
 // The value of the expression, or its first fault.
 fn compute(alloc: Global, e: &Expr) -> Result<Value, Refusal>
     ensures { IsAnswer result (spec.computed (tree e.now)) }
 {
-    check_value(alloc, e)?;
-    let names = no_names();
-    bind_constant(alloc, &names, kind_alone(typed_of(&names, e).given), e)
+    let typed = check_typed(alloc, e)?;
+    bind_constant(alloc, &no_names(), kind_alone(typed.given), e)
 }
 
 fn given_or_faulty(alloc: Global, e: &Expr) -> Result<RawValue, NoMemory>
