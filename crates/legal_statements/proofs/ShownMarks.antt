@@ -17,7 +17,7 @@ use Rattle.history.specs.Legal.{IsLegal}
 use Rattle.history.proofs.Settled.{AbortsStay, aborts_before}
 use Rattle.soundness.proofs.Presence.{all_entries, present_in, shown_in}
 use Rattle.soundness.proofs.Sound.{catalogue_sound_of, end_below, entry_below, mark_below}
-use Rattle.legal_statements.specs.ShownPartitions.{IsMarkAt, IsAttached, IsAnother, AttachedAgainIsAnother}
+use Rattle.legal_statements.specs.ShownPartitions.{IsMarkAt, IsShownAttached, IsAnother, AttachedAgainIsAnother}
 
 -- ---- the mark that counts
 
@@ -59,7 +59,7 @@ mark_counts (LockChange e ∷ h) txs k x stay sound is alive = mark_counts h txs
 
 -- ---- what is shown is attached
 
-shown_is_attached : (h : History) (session : ℕ) (s : TakenSnapshot) (e : Entry) → IsSound (tx_events h) → AreCatalogueSound h → IsEntry (catalogue_events h) e → is_shown h session s e ≡ true → IsAttached h session s e
+shown_is_attached : (h : History) (session : ℕ) (s : TakenSnapshot) (e : Entry) → IsSound (tx_events h) → AreCatalogueSound h → IsEntry (catalogue_events h) e → is_shown h session s e ≡ true → IsShownAttached h session s e
 shown_is_attached h session s e sound cats is shown =
     let seen = sees_stamp (tx_events h) s (counted_of (tx_events h) (marks (catalogue_events h)) e.id.number) in
     let parts = and_parts (is_present h session e) (not seen) shown in
@@ -69,7 +69,7 @@ shown_is_attached h session s e sound cats is shown =
       unmarked = λ x at alive. ap (sees_stamp (tx_events h) s) (sym (mark_counts h (tx_events h) e.id.number x (λ t a. a) cats at alive)) ∙ out;
     }
 
-pub all_attached : (h : History) (session : ℕ) (s : TakenSnapshot) → IsSound (tx_events h) → AreCatalogueSound h → All (IsAttached h session s) (entries_shown h session s)
+pub all_attached : (h : History) (session : ℕ) (s : TakenSnapshot) → IsSound (tx_events h) → AreCatalogueSound h → All (IsShownAttached h session s) (entries_shown h session s)
 all_attached h session s sound cats k d lt =
     let is = All-filter (is_shown h session s) (IsEntry (catalogue_events h)) (entries_added (catalogue_events h)) (all_entries (catalogue_events h)) k d lt in
     let shown = filter_passes (is_shown h session s) (entries_added (catalogue_events h)) k d lt in

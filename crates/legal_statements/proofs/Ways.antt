@@ -19,17 +19,17 @@ use Rattle.soundness.specs.Worlds.{table_in, IsMade}
 use Rattle.soundness.proofs.Listed.{none_in, only_one}
 use Rattle.soundness.proofs.Sound.{sound_of, catalogue_sound_of}
 use Rattle.soundness.proofs.All.{legal_keeps_all}
-use Rattle.legal_statements.specs.ShownPartitions.{IsAttached, IsShownBelow, TreesShowWhatIsAttached}
+use Rattle.legal_statements.specs.ShownPartitions.{IsShownAttached, IsShownBelow, TreesShowWhatIsAttached}
 use Rattle.legal_statements.proofs.ShownMarks.{all_attached}
 
 -- ---- one level
 
 record IsBelow (h : History) (session : ℕ) (s : TakenSnapshot) (t : ℕ) (e : Entry) : Type 0 where
-  attached : IsAttached h session s e
+  attached : IsShownAttached h session s e
   under : e.parent.number ≡ t
 
-all_below : (h : History) (session : ℕ) (s : TakenSnapshot) (entries : List Entry) (t : ℕ) → All (IsAttached h session s) entries → All (IsBelow h session s t) (children entries t)
-all_below h session s entries t attached k d lt = record { attached = all_children (IsAttached h session s) entries t attached k d lt; under = under_children entries t k d lt }
+all_below : (h : History) (session : ℕ) (s : TakenSnapshot) (entries : List Entry) (t : ℕ) → All (IsShownAttached h session s) entries → All (IsBelow h session s t) (children entries t)
+all_below h session s entries t attached k d lt = record { attached = all_children (IsShownAttached h session s) entries t attached k d lt; under = under_children entries t k d lt }
 
 -- the leaf is one of a child
 record IsOfKid (P : Entry → Type 0) (f : ℕ → TableTree) (leaf : LeafId) : Type 0 where
@@ -52,8 +52,8 @@ own_leaf h session s leaf own t made is at = record { steps = zero; table = t; l
 below_kid : (h : History) (session : ℕ) (s : TakenSnapshot) (leaf : LeafId) (t : ℕ) (e : Entry) → IsBelow h session s t e → IsShownBelow h session s e.child.number leaf → IsShownBelow h session s t leaf
 below_kid h session s leaf t e below shown = record { steps = suc shown.steps; table = shown.table; led = (e, below.attached, below.under, shown.led); home = shown.home }
 
-led_in : (h : History) (session : ℕ) (s : TakenSnapshot) (leaf : LeafId) (entries : List Entry) (t : ℕ) (node : Node) (f : ℕ → TableTree) (shape : TableShape) → (table_in (catalogue_events h) t).shape ≡ shape → IsMade (catalogue_events h) t → All (IsAttached h session s) entries
-    → ((e : Entry) → IsAttached h session s e → IsMade (catalogue_events h) e.child.number) → ((c : ℕ) → IsMade (catalogue_events h) c → Contains (leaves (f c)) leaf → IsShownBelow h session s c leaf)
+led_in : (h : History) (session : ℕ) (s : TakenSnapshot) (leaf : LeafId) (entries : List Entry) (t : ℕ) (node : Node) (f : ℕ → TableTree) (shape : TableShape) → (table_in (catalogue_events h) t).shape ≡ shape → IsMade (catalogue_events h) t → All (IsShownAttached h session s) entries
+    → ((e : Entry) → IsShownAttached h session s e → IsMade (catalogue_events h) e.child.number) → ((c : ℕ) → IsMade (catalogue_events h) c → Contains (leaves (f c)) leaf → IsShownBelow h session s c leaf)
     → Contains (leaves (grown shape node (map bound_of (children entries t)) (map (λ (e : Entry). f (child_of_entry e)) (children entries t)))) leaf → IsShownBelow h session s t leaf
 led_in h session s leaf entries t node f (Leaf own) is made all makes each at = own_leaf h session s leaf own t made is at
 led_in h session s leaf entries t node f (Level level) is made all makes each at =
@@ -64,7 +64,7 @@ led_bare : (h : History) (session : ℕ) (s : TakenSnapshot) (leaf : LeafId) (t 
 led_bare h session s leaf t node (Leaf own) is made at = own_leaf h session s leaf own t made is at
 led_bare h session s leaf t node (Level level) is made at = absurd (none_in leaf at)
 
-led_within : (n : ℕ) (h : History) (session : ℕ) (s : TakenSnapshot) (leaf : LeafId) (entries : List Entry) (named t : ℕ) → IsMade (catalogue_events h) t → All (IsAttached h session s) entries → ((e : Entry) → IsAttached h session s e → IsMade (catalogue_events h) e.child.number)
+led_within : (n : ℕ) (h : History) (session : ℕ) (s : TakenSnapshot) (leaf : LeafId) (entries : List Entry) (named t : ℕ) → IsMade (catalogue_events h) t → All (IsShownAttached h session s) entries → ((e : Entry) → IsShownAttached h session s e → IsMade (catalogue_events h) e.child.number)
     → Contains (leaves (tree_within n (tables_made (catalogue_events h)) entries named t)) leaf → IsShownBelow h session s t leaf
 led_within zero h session s leaf entries named t made all makes at = led_bare h session s leaf t (node_at (tables_made (catalogue_events h)) named t) (table_in (catalogue_events h) t).shape refl made at
 led_within (suc n) h session s leaf entries named t made all makes at =

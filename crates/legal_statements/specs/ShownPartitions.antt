@@ -22,14 +22,14 @@ IsMarkAt (EntryMarked n s ∷ cats) k x = ((n ≡ k) × (s ≡ x)) ⊎ IsMarkAt 
 IsMarkAt (_ ∷ cats) k x = IsMarkAt cats k x
 
 -- its birth counts for the session, and no end of it does; and the snapshot sees no mark of it, unless that was taken back
-pub record IsAttached (h : History) (session : ℕ) (s : TakenSnapshot) (e : Entry) : Type 0 where
+pub record IsShownAttached (h : History) (session : ℕ) (s : TakenSnapshot) (e : Entry) : Type 0 where
   pub present : Present (catalogue_events h) (counts (tx_events h) session) e
   pub unmarked : (x : Stamp) → IsMarkAt (catalogue_events h) e.id.number x → was_aborted (tx_events h) x.by.number ≡ false → sees (tx_events h) s x.by.number x.cmd ≡ false
 
 -- a table stands so many steps below another one, by such entries alone
 abbrev pub IsLedDown : History → (session : ℕ) → TakenSnapshot → (steps top x : ℕ) → Type 0
 IsLedDown h session s zero top x = top ≡ x
-IsLedDown h session s (suc n) top x = (e : Entry) × IsAttached h session s e × (e.parent.number ≡ top) × IsLedDown h session s n e.child.number x
+IsLedDown h session s (suc n) top x = (e : Entry) × IsShownAttached h session s e × (e.parent.number ≡ top) × IsLedDown h session s n e.child.number x
 
 -- the leaf is that of a table below
 pub record IsShownBelow (h : History) (session : ℕ) (s : TakenSnapshot) (top : ℕ) (leaf : LeafId) : Type 0 where

@@ -1,8 +1,7 @@
 -- The way upwards, over the entries that are flagged.
-use Rattle.std.proofs.Common.{◌≡◌, ℕ, zero, suc, ◌+◌, arith, ap, refl, ◌∙◌, Bool, List, [], ◌∷◌, Option, Some, None, filter, map, length, inl, inr}
+use Rattle.std.proofs.Common.{◌≡◌, ℕ, zero, suc, ◌+◌, arith, ap, refl, ◌∙◌, Bool, List, [], ◌∷◌, Option, Some, None, filter, map, inl, inr}
 use Rattle.std.specs.List.{find, position_or_len}
 use Rattle.std.proofs.lemmas.Bool.{cases_Bool}
-use Rattle.std.proofs.lemmas.List.{length-map}
 use Rattle.history.specs.declared.catalogue.Entry.{Entry}
 use Rattle.row_router.specs.declared.path_part.PathPart.{PathPart}
 use Rattle.row_router.specs.Histories.{above, is_over, is_entry, parent_in, upwards, children}
@@ -45,13 +44,6 @@ place_is entries flags numbers t e are =
     ∙ ap (position_or_len (is_number e.id.number)) (filter_numbers flags (children (by_place entries) t))
     ∙ position_numbers e (filter (is_flagged flags) (children (by_place entries) t))
     ∙ ap (position_or_len (is_entry e)) (children_of_part (is_flagged flags) (by_place entries) t)
-
-pub count_is : (entries : List StoredEntry) (flags : List Bool) (numbers : List ℕ) (t : ℕ) → numbers ≡ map number_of (children (by_place entries) t) → length (filter (flagged_number flags) numbers) ≡ length (children (filter (is_flagged flags) (by_place entries)) t)
-count_is entries flags numbers t are =
-    ap (λ ns. length (filter (flagged_number flags) ns)) are
-    ∙ ap length (filter_numbers flags (children (by_place entries) t))
-    ∙ length-map (filter (is_flagged flags) (children (by_place entries) t)) number_of
-    ∙ ap length (children_of_part (is_flagged flags) (by_place entries) t)
 
 -- ---- one step
 

@@ -16,7 +16,6 @@ use Rattle.row_router.specs.declared.path_part.Place.{Place}
 use Rattle.row_router.specs.Trees.{TableTree}
 use Rattle.row_router.specs.Histories.{placed, all_placed, is_under, children, bound_of, child_of_entry, node_at, grown, tree_within, is_over, above, is_entry, place_among, place_of, parent_in}
 use Rattle.row_router.specs.Siblings.{CanStandTogether, AreSiblings}
-use Rattle.part_catalog.specs.Full.{tables_up, tables_above}
 
 -- an entry whose number is another
 abbrev pub renumbered : (ℕ → ℕ) → Entry → Entry
@@ -78,16 +77,6 @@ parent_same g (Some e) = refl
 
 pub parent_anew : (g : ℕ → ℕ) (es : List Entry) (t : ℕ) → parent_in (above (map (renumbered g) es) t) ≡ parent_in (above es t)
 parent_anew g es t = ap parent_in (above_anew g es t) ∙ parent_same g (above es t)
-
-ups_agree : (n : ℕ) (up down : ℕ → Option Entry) → ((t : ℕ) → parent_in (up t) ≡ parent_in (down t)) → (o : Option ℕ) → tables_up n up o ≡ tables_up n down o
-ups_agree zero up down same None = refl
-ups_agree zero up down same (Some t) = refl
-ups_agree (suc n) up down same None = refl
-ups_agree (suc n) up down same (Some t) = ap (λ o. tables_up n up o + 1) (same t) ∙ ap (λ k. k + 1) (ups_agree n up down same (parent_in (down t)))
-
-pub tables_above_anew : (g : ℕ → ℕ) (es : List Entry) (t : ℕ) → tables_above (above (map (renumbered g) es)) t ≡ tables_above (above es) t
-unfolding Rattle.part_catalog.specs.Full.tables_above
-tables_above_anew g es t = ups_agree 8 (above (map (renumbered g) es)) (above es) (parent_anew g es) (Some t)
 
 -- ---- the place of an entry
 

@@ -13,7 +13,10 @@ use Rattle.history.specs.Transactions.{IsSound}
 use Rattle.history.specs.Catalogue.{tables_made, entries_added}
 use Rattle.history.specs.History.{History, tx_events, catalogue_events}
 use Rattle.history.specs.Places.{table_at, TakesBound, Suits}
-use Rattle.row_router.specs.Histories.{tree_within, tree_of, ddl_tree}
+use Rattle.history.specs.Presence.{entries_present}
+use Rattle.pg_values.specs.declared.ids.LeafId.{LeafId}
+use Rattle.row_router.specs.Trees.{LeafTable}
+use Rattle.row_router.specs.Histories.{node_at, tree_within, tree_of, ddl_tree}
 use Rattle.row_router.proofs.Suited.{all_suit}
 use Rattle.part_catalog.specs.declared.stored.StoredTable.{StoredTable}
 use Rattle.part_catalog.specs.declared.stored.StoredEntry.{StoredEntry}
@@ -27,6 +30,7 @@ use Rattle.tx_table.specs.Kept.{KeptTable}
 use Rattle.tx_table.specs.Stands.{TableStands}
 use Rattle.row_router.specs.Siblings.{AreSiblings}
 use Rattle.part_catalog.proofs.Forgotten.{thin_all}
+use Rattle.part_catalog.proofs.Grown.{grown_leaf}
 use Rattle.part_catalog.proofs.Places.{own_number}
 use Rattle.part_catalog.proofs.Renumbered.{tree_anew}
 use Rattle.part_catalog.proofs.Told.{present_flagged, shown_flagged, shown_siblings, present_siblings}
@@ -44,6 +48,13 @@ ddl_tree_is kept h s t flags sound st are =
     ap (λ ts. tree_within 7 ts (filter (is_flagged flags) (by_place kept.entries)) t t) st.tables
     ∙ sym (tree_anew (own_number kept.entries) 7 (tables_made (catalogue_events h)) (filter (is_flagged flags) (by_place kept.entries)) t t)
     ∙ ap (λ es. tree_within 7 (tables_made (catalogue_events h)) es t t) (present_flagged kept h s flags sound st are)
+
+-- a table that is not partitioned
+pub leaf_told : (kept : KeptCatalogue) (h : History) (s t : ℕ) (tables : List StoredTable) (leaf : LeafId) → tables ≡ kept.tables → CatalogueStands kept h → (table_at (map table_in tables) t).shape ≡ Leaf leaf → LeafTable (node_at (map table_in tables) t t) leaf ≡ ddl_tree h s t
+unfolding Rattle.row_router.specs.Histories.ddl_tree
+leaf_told kept h s t tables leaf same st shape =
+    grown_leaf 7 (map table_in tables) (entries_present h s) t t leaf shape
+    ∙ ap (λ ts. tree_within 7 ts (entries_present h s) t t) (ap (map table_in) same ∙ st.tables)
 
 kind_at : (shape : TableShape) (b : Bound) → TakesBound shape b → BoundOfKind IsNotNull b
 kind_at (Leaf leaf) b h = absurd h

@@ -1,5 +1,6 @@
 -- Bounds that have an order.
-use Rattle.std.specs.Prelude.{◌≡◌, ℕ, ◌<◌, Bool, true, List, length, slice_index_or}
+use Rattle.std.specs.Prelude.{◌≡◌, ℕ, ◌<◌, Bool, true, false, List, length, slice_index_or}
+use Rattle.std.specs.List.{AllPairs}
 use Rattle.pg_values.specs.KeyKinds.{IsNotNull}
 use Rattle.bound_forms.specs.declared.partition_bound.Bound.{Bound}
 use Rattle.bound_forms.specs.Ordered.{are_alike}
@@ -21,3 +22,7 @@ stands_behind entries b n = comes_after (slice_index_or entries n no_entry).entr
 -- there is an entry of that number, and its bound and that of the further entry have an order
 abbrev pub CanPlace : List StoredEntry → Entry → ℕ → Type 0
 CanPlace entries e n = (n < length entries) × HaveAnOrder (slice_index_or entries n no_entry).entry.bound e.bound
+
+-- the entries of these numbers stand in plain order
+abbrev pub AreInOrder : List StoredEntry → List ℕ → Type 0
+AreInOrder entries numbers = AllPairs (λ m n. stands_behind entries (slice_index_or entries n no_entry).entry.bound m ≡ false) numbers

@@ -14,11 +14,9 @@ ghost use Rattle.part_catalog.specs.Ordered.{HaveAnOrder};
 
 use crate::below::Below;
 use crate::keep::forget;
-use crate::room::{count_shown, levels_up, place_in};
+use crate::room::place_in;
 use crate::stored::{StoredEntry, StoredTable};
-use crate::{
-    Catalog, CatalogRefused, ENTRY_LIMIT, LEVEL_LIMIT, NewTable, PARTITION_LIMIT, TABLE_LIMIT, see,
-};
+use crate::{Catalog, CatalogRefused, ENTRY_LIMIT, LEVEL_LIMIT, NewTable, TABLE_LIMIT};
 use bound_forms::Bound;
 use history::{Check, Entry, EntryId, KeptCheck, Table, TxId};
 use pg_values::{NoMemory, TableNo, Which};
@@ -106,23 +104,18 @@ impl Catalog {
             Ok(tree) => tree,
             Err(NoMemory) => return Err(CatalogRefused::NoMemory),
         };
-        let flags = match see::present_flags(self.alloc, &self.entries, txs, session) {
-            Ok(flags) => flags,
-            Err(NoMemory) => return Err(CatalogRefused::NoMemory),
-        };
         if self.added >= ENTRY_LIMIT {
             return Err(CatalogRefused::Full {
                 which: Which::Partitions,
             });
         }
-        if count_shown(self.below[parent.number as usize].numbers(), &flags) >= PARTITION_LIMIT {
+        if self.is_full(txs, parent, session) {
             return Err(CatalogRefused::Full {
                 which: Which::Partitions,
             });
         }
-        if levels_up(&self.entries, &flags, parent) + height_up_to(&below, LEVEL_LIMIT + 1)
-            > LEVEL_LIMIT
-        {
+        let levels = self.levels_up(txs, parent, session);
+        if levels + height_up_to(&below, LEVEL_LIMIT + 1) > LEVEL_LIMIT {
             return Err(CatalogRefused::Full {
                 which: Which::Levels,
             });

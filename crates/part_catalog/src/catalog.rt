@@ -16,9 +16,9 @@ ghost use Rattle.part_catalog.specs.Answers.{parent_told, child_told, marker_tol
 use crate::below::Below;
 use crate::keep::{KeptTree, grow_or_share};
 use crate::names::Names;
-use crate::see;
 use crate::stored::{StoredEntry, StoredTable};
-use history::{Check, Entry, Stamp, Table, TxId};
+use crate::{grow, see};
+use history::{Check, Entry, Stamp, Table, TableShape, TxId};
 use pg_values::{NoMemory, TableNo};
 use row_router::Tree;
 use std::alloc::Global;
@@ -151,6 +151,10 @@ impl Catalog {
         ensures { IfOk result (λ t. (h : History) → TableStands txs.now h → CatalogueStands self.now h →
             seen t ≡ ddl_tree h session table.number) }
     {
+        if let TableShape::Leaf(leaf) = &self.tables[table.number as usize].table.shape {
+            let tree = grow::leaf(alloc, &self.tables, table, *leaf)?;
+            return Ok(tree);
+        }
         let flags = see::present_flags(alloc, &self.entries, txs, session)?;
         let tree = grow_or_share(
             alloc,

@@ -2,6 +2,7 @@
 
 ghost use Rattle.std.specs.Prelude.{◌≡◌, ◌<◌, ℕ, map, filter, get_or, length, IfOk};
 ghost use Rattle.row_router.specs.Seen.{seen};
+ghost use Rattle.row_router.specs.Trees.{LeafTable};
 ghost use Rattle.row_router.specs.Histories.{tree_within, node_at, children, bound_of};
 ghost use Rattle.history.specs.Places.{table_at};
 ghost use Rattle.part_catalog.specs.Kept.{table_in, by_place};
@@ -13,7 +14,7 @@ use crate::stored::{StoredEntry, StoredTable};
 use bound_forms::copy_bound;
 use history::TableShape;
 use part_bounds::{BoundSet, set_in_order};
-use pg_values::{NoMemory, TableNo, ValueKey};
+use pg_values::{LeafId, NoMemory, TableNo, ValueKey};
 use row_router::{Node, Tree, TreeList, copy_level};
 use std::alloc::Global;
 
@@ -35,6 +36,20 @@ fn node(
         name,
         columns,
     })
+}
+
+/// A table that is not partitioned.
+pub fn leaf(
+    alloc: Global,
+    tables: &[StoredTable],
+    table: TableNo,
+    leaf: LeafId,
+) -> Result<Tree, NoMemory>
+    requires { table.number < length tables.now }
+    ensures { IfOk result (λ t. seen t ≡ LeafTable (node_at (map table_in tables.now) table.number table.number) leaf) }
+{
+    let node = node(alloc, tables, table, table)?;
+    Ok(Tree::leaf(node, leaf))
 }
 
 /// The bounds of the shown entries below a table, which stand in plain order already.

@@ -12,7 +12,8 @@
 //! committed is there for nobody, and stays so: such entries are forgotten, all at once when there are twice
 //! as many entries as were left the last time. The entries below a table stand in plain order from the moment
 //! they are added, so that a tree is built in one pass. Trees that statements asked for are kept until a
-//! table is made or an entry added: a tree of the same table with the same entries shares what stands below.
+//! table is made or an entry added: a tree of the same table with the same entries shares what stands below, and a path the bounds
+//! beside a partition.
 //! The contracts say that the catalogue stands for a history of events, before a call and after it, and what
 //! a call answers is a definition over that history.
 #![tactic(auto)]

@@ -59,7 +59,7 @@ pub fn is_present(txs: &TxTable, session: u32, x: &StoredEntry) -> bool
 pub fn is_pending(txs: &TxTable, session: u32, x: &StoredEntry) -> bool
     ensures { (h : History) → TableStands txs.now h → result ≡ pending_by (tx_events h) session x.now }
 {
-    is_present(txs, session, x) && stamp_counts(txs, session, x.marked)
+    stamp_counts(txs, session, x.marked) && is_present(txs, session, x)
 }
 
 // Whether the snapshot sees a mark.
@@ -132,7 +132,7 @@ pub fn present_among<'c>(
     ensures { IfOk result (λ found. (h : History) → TableStands txs.now h →
         map (λ e. e.now) found.items ≡ map entry_in (filter (present_by (tx_events h) session) (map (stored_at entries.now) numbers.now))) }
 {
-    let mut found = Vec::new(alloc);
+    let mut found = Vec::with_capacity(alloc, numbers.len())?;
     for number in numbers {
         let x = &entries[*number as usize];
         if is_present(txs, session, x) {
@@ -140,6 +140,21 @@ pub fn present_among<'c>(
         }
     }
     Ok(found)
+}
+
+/// How many of the entries of these numbers are present for the session.
+pub fn count_present(entries: &[StoredEntry], numbers: &[u64], txs: &TxTable, session: u32) -> usize
+    requires { All (λ k. k < length entries.now) numbers.now }
+    ensures { (h : History) → TableStands txs.now h →
+        result ≡ length (filter (present_by (tx_events h) session) (map (stored_at entries.now) numbers.now)) }
+{
+    let mut count = 0;
+    for number in numbers {
+        if is_present(txs, session, &entries[*number as usize]) {
+            count += 1;
+        }
+    }
+    count
 }
 
 /// The last entry of these numbers that is present for the session.

@@ -1,4 +1,5 @@
 pub mod Among
+pub mod Behind
 pub mod Defaults
 pub mod Ends
 pub mod First

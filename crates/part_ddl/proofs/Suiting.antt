@@ -35,6 +35,12 @@ pub none_bad : (b : Bound) (bounds : List Bound) → is_hash b ≡ false → bad
 none_bad b [] plain = refl
 none_bad b (a ∷ bounds) plain = let suits = suits_any a b plain in rw suits (none_bad b bounds plain)
 
+pub none_told : (b : Bound) (o : Option ℕ) → is_hash b ≡ false → modulus_told b o ≡ []
+none_told (Range l u) o plain = refl
+none_told (Listed vs) o plain = refl
+none_told Default o plain = refl
+none_told (Hash m r) o plain = absurd (cc)
+
 told_none : (m r : ℕ) (o : Option ℕ) → modulus_told (Hash m r) o ≡ [] → o ≡ None
 told_none m r None e = refl
 told_none m r (Some n) e = absurd (cc)

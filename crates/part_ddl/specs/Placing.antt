@@ -1,15 +1,17 @@
 -- Whether a partition may stand below a table (the manual, CREATE TABLE, PARTITION OF, and 5.11.2 Declarative
 -- Partitioning).
-use Rattle.std.specs.Prelude.{◌≡◌, ℕ, ◌+◌, List, [], ◌∷◌, ◌++◌, ◌&&◌, Option, Some, None, Result, Ok, Err, All, length, map, nat_le, nat_lt, option_map, position, slice_index_or}
+use Rattle.std.specs.Prelude.{◌≡◌, ℕ, ◌+◌, List, [], ◌∷◌, ◌++◌, ◌&&◌, Bool, false, Option, Some, None, Result, Ok, Err, All, length, map, nat_le, nat_lt, option_map, position, slice_index_or}
+use Rattle.std.specs.Ordering.{is_ge}
 use Rattle.pg_values.specs.declared.fault.Fault.{Fault}
 use Rattle.pg_values.specs.declared.fault.Refusal.{Refusal}
 use Rattle.pg_values.specs.declared.fault.Refusal.TheVariants.{Sql, NoMemory}
 use Rattle.pg_values.specs.declared.which.Which.TheVariants.{Partitions, Levels}
 use Rattle.bound_forms.specs.declared.level.Level.{Level as OneLevel}
 use Rattle.bound_forms.specs.declared.partition_bound.Bound.{Bound}
-use Rattle.bound_forms.specs.declared.partition_bound.Bound.TheVariants.{Hash, Default}
+use Rattle.bound_forms.specs.declared.partition_bound.Bound.TheVariants.{Range, Hash, Default}
 use Rattle.bound_forms.specs.Accepts.{is_default}
 use Rattle.bound_forms.specs.Bounds.{overlaps}
+use Rattle.bound_forms.specs.Points.{point_order}
 use Rattle.pg_values.specs.Refusals.{unless}
 use Rattle.refusals.specs.Refusals.{not_partitioned, second_default, partition_is_pending, modulus_does_not_suit, bound_overlaps, too_many}
 use Rattle.bound_forms.specs.Levels.{IsOfLevel}
@@ -86,6 +88,11 @@ bound_faults parent pending names bounds b = default_faults parent pending names
 -- a table has 1,024 partitions at most, a path 8 tables, and each partition that a run attaches a number of 64 bits
 abbrev pub room_faults : (partitions added levels : ℕ) → List Fault
 room_faults partitions added levels = unless (nat_lt partitions 1024 && nat_lt added ENTRY_LIMIT) (too_many Partitions) ++ unless (nat_le levels 8) (too_many Levels)
+
+-- the range begins where the other one ends, or behind it
+abbrev pub begins_behind : Bound → Bound → Bool
+begins_behind (Range l u) (Range m v) = is_ge (point_order l v)
+begins_behind _ _ = false
 
 -- the bounds are of one level
 pub record AreOfOneLevel (b : Bound) (bounds : List Bound) : Type 0 where

@@ -1,27 +1,27 @@
 //! Whether a partition may stand below a table.
 
-ghost use Rattle.std.specs.Prelude.{◌≡◌, ◌<◌, ◌≤◌, ◌++◌, [], ◌∷◌, MatchResult, IfOk, OnOk, Ok, None, All, true, find, length, map, option_map};
+ghost use Rattle.std.specs.Prelude.{◌≡◌, ◌<◌, ◌≤◌, ◌++◌, ℕ, [], ◌∷◌, MatchResult, IfOk, OnOk, Ok, None, All, false, true, find, length, map, option_map, slice_index_or};
 ghost use Rattle.pg_values.specs.KeyKinds.{IsNotNull};
 ghost use Rattle.pg_values.specs.Refusals.{IsAnswer, or_first};
 ghost use Rattle.bound_forms.specs.declared.partition_bound.Bound.TheVariants.{Default, List as Listed};
-ghost use Rattle.bound_forms.specs.Bounds.{is_filled, overlaps, BoundOfKind, BoundsFit};
+ghost use Rattle.bound_forms.specs.Bounds.{is_filled, overlaps, BoundOfKind, BoundsFit, IsInPlainOrder};
 ghost use Rattle.bound_forms.specs.Listed.{share_value, ListsFit};
 ghost use Rattle.bound_forms.specs.Moduli as moduli;
 ghost use Rattle.bound_forms.specs.Moduli.{bad_modulus};
 ghost use Rattle.history.specs.History.{History};
 ghost use Rattle.history.specs.Places.{TakesBound};
-ghost use Rattle.history.specs.Presence.{entries_present};
 ghost use Rattle.tx_table.specs.Stands.{TableStands};
-ghost use Rattle.row_router.specs.Histories.{above, bound_of};
+ghost use Rattle.row_router.specs.Histories.{bound_of};
 ghost use Rattle.part_catalog.specs.Answers.{AreTogether};
 ghost use Rattle.part_catalog.specs.Found.{made_at};
-ghost use Rattle.part_catalog.specs.Full.{added, tables_above};
+ghost use Rattle.part_catalog.specs.Full.{added};
+ghost use Rattle.part_catalog.specs.Kept.{no_entry};
 ghost use Rattle.part_catalog.specs.Stands.{CatalogueStands};
 ghost use Rattle.part_ddl.specs.Placing as placing;
 ghost use Rattle.part_ddl.specs.Placing.{AreOfOneLevel, IsFault};
 
 use crate::below::default_among;
-use bound_forms::{Bound, Level, RowKey, copy_bound};
+use bound_forms::{Bound, Level, RowKey, cmp_points, copy_bound};
 use history::{Entry, TableShape};
 use part_bounds::{BoundSet, find_child_uncounted, modulus_fault, overlap_uncounted, set_in_order};
 use part_catalog::{Catalog, ENTRY_LIMIT, LEVEL_LIMIT, PARTITION_LIMIT};
@@ -117,14 +117,54 @@ fn overlaps_other(one: &BoundSet<ValueKey>, bound: &Bound, other: &Bound) -> boo
     }
 }
 
+// Whether the bound is a range that begins where the other one ends, or behind it.
+fn begins_behind(bound: &Bound, other: &Bound) -> bool
+    requires kind { BoundOfKind IsNotNull bound.now }
+    requires fit { BoundsFit bound.now other.now }
+    ensures { result ≡ placing.begins_behind bound.now other.now }
+{
+    match (bound, other) {
+        (Bound::Range { lower, .. }, Bound::Range { upper, .. }) => {
+            cmp_points(&ValueKey, lower, upper).is_ge()
+        }
+        _ => false,
+    }
+}
+
+// How many of the partitions the bound begins behind, by halves: it overlaps none of them.
+fn count_before(bound: &Bound, partitions: &[&Entry]) -> usize
+    requires kind { BoundOfKind IsNotNull bound.now }
+    requires filled { All (λ e. is_filled e.bound ≡ true) (map (λ e. e.now) partitions.now) }
+    requires fit { All (λ e. BoundsFit bound.now e.bound) (map (λ e. e.now) partitions.now) }
+    requires ordered { IsInPlainOrder (map bound_of (map (λ e. e.now) partitions.now)) }
+    ensures within { result ≤ length partitions.now }
+    ensures apart { (k : ℕ) → k < result → overlaps bound.now (slice_index_or (map (λ e. e.now) partitions.now) k no_entry.entry).bound ≡ false }
+{
+    let mut low = 0;
+    let mut high = partitions.len();
+    while low < high {
+        let middle = low + (high - low) / 2;
+        if begins_behind(bound, &partitions[middle].bound) {
+            low = middle + 1;
+        } else {
+            high = middle;
+        }
+    }
+    low
+}
+
 // The first partition whose bound overlaps the only bound of the set.
 fn overlapping(one: &BoundSet<ValueKey>, bound: &Bound, partitions: &[&Entry]) -> Option<TableNo>
     requires one { one.now ≡ bound.now ∷ [] }
     requires filled { All (λ e. is_filled e.bound ≡ true) (map (λ e. e.now) partitions.now) }
     requires fit { All (λ e. BoundsFit bound.now e.bound) (map (λ e. e.now) partitions.now) }
+    requires kind { BoundOfKind IsNotNull bound.now }
+    requires ordered { IsInPlainOrder (map bound_of (map (λ e. e.now) partitions.now)) }
     ensures { result ≡ option_map (λ e. e.child) (find (λ e. overlaps bound.now e.bound) (map (λ e. e.now) partitions.now)) }
 {
-    for entry in partitions {
+    let from = count_before(bound, partitions);
+    for i in from..partitions.len() {
+        let entry = partitions[i];
         if overlaps_other(one, bound, &entry.bound) {
             return Some(entry.child);
         }
@@ -184,18 +224,18 @@ fn check_modulus(
     ensures answer { IsAnswer result (or_first (placing.modulus_faults (map bound_of (map (λ e. e.now) partitions.now)) bound.now) tt) }
     ensures fit { OnOk result (bad_modulus bound.now (map bound_of (map (λ e. e.now) partitions.now)) ≡ None) }
 {
-    match unsuited(one, bound, partitions) {
-        None => Ok(()),
-        Some(other) => match bound {
-            Bound::Hash { modulus, .. } => {
+    match bound {
+        Bound::Hash { modulus, .. } => match unsuited(one, bound, partitions) {
+            None => Ok(()),
+            Some(other) => {
                 Err(Refusal::Sql(modulus_does_not_suit(
                     alloc,
                     u64::from(*modulus),
                     u64::from(other),
                 )?))
             }
-            _ => unreachable!(),
         },
+        _ => Ok(()),
     }
 }
 
@@ -210,6 +250,8 @@ fn check_overlap(
     requires known { All (λ e. e.child.number < length catalog.now.tables) (map (λ e. e.now) partitions.now) }
     requires filled { All (λ e. is_filled e.bound ≡ true) (map (λ e. e.now) partitions.now) }
     requires fit { All (λ e. BoundsFit bound.now e.bound) (map (λ e. e.now) partitions.now) }
+    requires kind { BoundOfKind IsNotNull bound.now }
+    requires ordered { IsInPlainOrder (map bound_of (map (λ e. e.now) partitions.now)) }
     ensures { (h : History) → CatalogueStands catalog.now h →
         IsAnswer result (or_first (placing.overlap_faults (map (placing.child_name h) (map (λ e. e.now) partitions.now)) (map bound_of (map (λ e. e.now) partitions.now)) bound.now) tt) }
 {
@@ -233,6 +275,7 @@ fn check_beside(
 ) -> Result<(), Refusal>
     requires known { All (λ e. e.child.number < length catalog.now.tables) (map (λ e. e.now) partitions.now) }
     requires level { AreOfOneLevel bound.now (map bound_of (map (λ e. e.now) partitions.now)) }
+    requires ordered { IsInPlainOrder (map bound_of (map (λ e. e.now) partitions.now)) }
     ensures { (h : History) → CatalogueStands catalog.now h →
         IsAnswer result (or_first (placing.bound_faults parent.now (option_map (λ n. n.now) pending.entry) (map (placing.child_name h) (map (λ e. e.now) partitions.now)) (map bound_of (map (λ e. e.now) partitions.now)) bound.now) tt) }
 {
@@ -267,30 +310,12 @@ fn check_level(
 ) -> Result<(), Refusal>
     requires known { All (λ e. e.child.number < length catalog.now.tables) (map (λ e. e.now) partitions.now) }
     requires level { AreOfOneLevel bound.now (map bound_of (map (λ e. e.now) partitions.now)) }
+    requires ordered { IsInPlainOrder (map bound_of (map (λ e. e.now) partitions.now)) }
     ensures { (h : History) → CatalogueStands catalog.now h →
         IsAnswer result (or_first (placing.bound_faults parent.now (option_map (λ n. n.now) pending.entry) (map (placing.child_name h) (map (λ e. e.now) partitions.now)) (map bound_of (map (λ e. e.now) partitions.now)) bound.now ++ placing.room_faults (length (map (λ e. e.now) partitions.now)) (added h) levels) tt) }
 {
     check_beside(alloc, catalog, parent, pending, partitions, bound)?;
     check_room(alloc, partitions.len(), catalog.entry_count(), levels)
-}
-
-// How many tables stand on the path from a table upwards, up to eight.
-#[tactic(auto, unfolding(part_catalog::specs::Full::tables_above))]
-fn levels_up(catalog: &Catalog, txs: &TxTable, table: TableNo, session: u32) -> usize
-    ensures is { (h : History) → TableStands txs.now h → CatalogueStands catalog.now h →
-        result ≡ tables_above (above (entries_present h session)) table.number }
-    ensures few { result ≤ 8 }
-{
-    let mut count = 0;
-    let mut next = Some(table);
-    for step in 0..8_usize {
-        let Some(table) = next else {
-            return count;
-        };
-        count += 1;
-        next = catalog.parent_of(txs, session, table);
-    }
-    count
 }
 
 // The name of the pending partition of a table.
@@ -332,6 +357,6 @@ pub fn check_place(
     let partitions = catalog.partitions(alloc, txs, parent, session)?;
     let pending = pending_name(catalog, txs, parent, session);
     let name = catalog.name_of(parent);
-    let levels = levels_up(catalog, txs, parent, session) + 1;
+    let levels = catalog.levels_up(txs, parent, session) + 1;
     check_level(alloc, catalog, name, pending, &partitions, bound, levels)
 }

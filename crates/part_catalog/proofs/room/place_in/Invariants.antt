@@ -1,7 +1,7 @@
-use Rattle.std.proofs.Common.{◌≡◌, ℕ, ◌<◌, false, get_or}
+use Rattle.std.proofs.Common.{◌≡◌, ℕ, ◌<◌, ◌≤◌, true, get_or, length}
 use Rattle.part_catalog.specs.Ordered.{stands_behind}
 use Rattle.part_catalog.proofs.room.place_in.Given as goal
 
--- no bound so far comes after that of the entry
-abbrev pub invariant-loop-at : goal.invariant-loop-at
-invariant-loop-at l = (k d : ℕ) → k < l.at → stands_behind l.entries l.entry.bound (get_or l.numbers k d) ≡ false
+-- all bounds so far, from behind, come after that of the entry
+abbrev pub invariant-loop-i : goal.invariant-loop-i
+invariant-loop-i l = (k d : ℕ) → l.i ≤ k → k < length l.numbers → stands_behind l.entries l.entry.bound (get_or l.numbers k d) ≡ true

@@ -13,3 +13,6 @@ check_overlap-requires-clause-filled c = all_filled c.args.bound.now _ c.require
 
 pub check_overlap-requires-clause-fit : goal.check_overlap-requires-clause-fit
 check_overlap-requires-clause-fit c = all_fit c.args.bound.now _ c.requires.level c.in_ok-check_modulus.ensures.fit
+
+pub check_overlap-requires-clause-kind : goal.check_overlap-requires-clause-kind
+check_overlap-requires-clause-kind c = level_kind c.requires.level.level c.args.bound.now c.requires.level.mine

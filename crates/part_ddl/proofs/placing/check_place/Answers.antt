@@ -1,11 +1,14 @@
-use Rattle.std.proofs.Common.{◌≡◌, ◌+◌, ◌∙◌, ◌<◌, ℕ, All, ap, subst, List, Bor, length, map}
+use Rattle.std.proofs.Common.{◌≡◌, ◌+◌, ◌∙◌, ◌<◌, ℕ, All, ap, sym, subst, List, Bor, length, map}
 use Rattle.std.specs.Option.{option_map}
 use Rattle.pg_values.specs.declared.fault.Fault.{Fault}
 use Rattle.pg_values.specs.Refusals.{IsAnswer, or_first}
+use Rattle.bound_forms.specs.Bounds.{IsInPlainOrder}
 use Rattle.history.specs.declared.catalogue.Entry.{Entry}
 use Rattle.history.specs.History.{History}
+use Rattle.history.specs.Presence.{entries_present}
 use Rattle.tx_table.specs.Stands.{TableStands}
 use Rattle.row_router.specs.Histories.{bound_of}
+use Rattle.row_router.proofs.Order.{siblings_in_order}
 use Rattle.part_catalog.specs.Stands.{CatalogueStands}
 use Rattle.part_ddl.specs.Placing.{child_name, partitions_of}
 use Rattle.part_ddl.proofs.Among.{SameWords, place_same, children_known, of_one_level}
@@ -20,6 +23,13 @@ pub check_level-requires-clause-level : goal.check_level-requires-clause-level
 check_level-requires-clause-level c =
     of_one_level c.args.txs.now c.args.catalog.now c.args.session c.args.parent.number c.args.bound.now _ c.requires.siblings
     (λ h txs st. ap (map (λ (e : Bor Entry). e.now)) c.deref.ensures.value ∙ c.in_ok-partitions.ensures h txs st) c.requires.takes
+
+pub check_level-requires-clause-ordered : goal.check_level-requires-clause-ordered
+check_level-requires-clause-ordered c =
+    let both = c.requires.siblings in
+    let h = both.h in
+    let told = ap (map (λ (e : Bor Entry). e.now)) c.deref.ensures.value ∙ c.in_ok-partitions.ensures h both.txs both.catalogue in
+    subst (λ (es : List Entry). IsInPlainOrder (map bound_of es)) (sym told) (siblings_in_order (entries_present h c.args.session) c.args.parent.number both.siblings)
 
 pub returns : goal.returns
 returns c h txs st =

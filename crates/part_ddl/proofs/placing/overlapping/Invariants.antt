@@ -3,5 +3,5 @@ use Rattle.std.specs.List.{find}
 use Rattle.bound_forms.specs.Bounds.{overlaps}
 use Rattle.part_ddl.proofs.placing.overlapping.Given as goal
 
-abbrev pub invariant-loop-entry : goal.invariant-loop-entry
-invariant-loop-entry l = find (λ e. overlaps l.bound e.bound) (map (λ e. e.now) (drop l.entry-index l.partitions)) ≡ find (λ e. overlaps l.bound e.bound) (map (λ e. e.now) l.partitions)
+abbrev pub invariant-loop-i : goal.invariant-loop-i
+invariant-loop-i l = find (λ e. overlaps l.bound e.bound) (map (λ e. e.now) (drop l.i l.partitions)) ≡ find (λ e. overlaps l.bound e.bound) (map (λ e. e.now) l.partitions)

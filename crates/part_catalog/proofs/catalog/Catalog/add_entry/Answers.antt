@@ -1,6 +1,6 @@
-use Rattle.std.proofs.Common.{◌≡◌, ◌∙◌, ◌<◌, ◌∷◌, [], ℕ, List, min, ap, sym, subst, refl, arith, inl, inr, length, map, filter, get_or}
-use Rattle.std.proofs.lemmas.Grind.{common_steps, elements}
-use Rattle.std.proofs.lemmas.List.{length-map}
+use Rattle.std.proofs.Common.{◌≡◌, ◌∙◌, ◌∷◌, ℕ, List, true, false, min, ap, sym, subst, refl, arith, inl, inr}
+use Rattle.std.specs.Prelude.{nat_le}
+use Rattle.std.proofs.lemmas.Bool.Decides.{nat_tests}
 use Rattle.history.specs.declared.catalogue.Table.{Table}
 use Rattle.history.specs.Catalogue.{EntryAdded, tables_made}
 use Rattle.history.specs.History.{CatalogueChange, tx_events, catalogue_events}
@@ -8,14 +8,12 @@ use Rattle.history.specs.Places.{Suits}
 use Rattle.history.specs.Presence.{entries_present}
 use Rattle.history.specs.Transactions.{session_of}
 use Rattle.row_router.specs.Trees.{TableTree, height}
-use Rattle.row_router.specs.Histories.{above, children, ddl_tree}
-use Rattle.part_catalog.specs.declared.stored.StoredTable.{StoredTable}
-use Rattle.part_catalog.specs.declared.stored.StoredEntry.{StoredEntry}
+use Rattle.row_router.specs.Histories.{above, ddl_tree}
 use Rattle.part_catalog.specs.Full.{partitions, tables_above}
-use Rattle.part_catalog.specs.Kept.{KeptCatalogue, by_place, table_in, next_entry, number_of, with_entry}
-use Rattle.part_catalog.specs.Stands.{CatalogueStands, present_by, is_flagged}
+use Rattle.part_catalog.specs.Kept.{KeptCatalogue, next_entry, with_entry}
+use Rattle.part_catalog.specs.Stands.{CatalogueStands}
 use Rattle.part_catalog.proofs.Keeping.{added_stands}
-use Rattle.part_catalog.proofs.Adding.{orders_of, partitions_told, above_told_flagged, too_deep, deep_enough}
+use Rattle.part_catalog.proofs.Adding.{orders_of, too_deep, deep_enough}
 use Rattle.part_catalog.proofs.catalog.Catalog.add_entry.Goals as goal
 
 pub returns-then-self-ge-ENTRY_LIMIT-clause-cause : goal.returns-then-self-ge-ENTRY_LIMIT-clause-cause
@@ -23,45 +21,23 @@ returns-then-self-ge-ENTRY_LIMIT-clause-cause c h txs st =
     let same : c.self.inside.added ≡ c.args.self.now.added = ap (λ (k : KeptCatalogue). k.added) c.self.view_is in
     inl (refl, inr (omega (arith, same, st.added, c.if-self-ge-ENTRY_LIMIT.true)))
 
-pub returns-then-count_shown-ge-PARTITION_LIMIT-clause-cause : goal.returns-then-count_shown-ge-PARTITION_LIMIT-clause-cause
-returns-then-count_shown-ge-PARTITION_LIMIT-clause-cause c h txs st =
-    let kept = c.args.self.now in
+pub returns-then-is_full-clause-cause : goal.returns-then-is_full-clause-cause
+returns-then-is_full-clause-cause c h txs st =
     let s = session_of (tx_events h) c.args.by.number in
     let p = c.args.parent.number in
-    let tables = ap (λ (k : KeptCatalogue). k.tables) c.self.view_is in
-    let entries = ap (λ (k : KeptCatalogue). k.entries) c.self.view_is in
-    let flags : c.deref-2.result.now ≡ map (present_by (tx_events h) s) kept.entries =
-    c.deref-2.ensures.value ∙ c.in-Ok-present_flags.ensures.is h txs ∙ ap (λ n. map (present_by (tx_events h) n) c.deref.result.now) (c.session_of-session.ensures h txs) ∙ ap (map (present_by (tx_events h) s)) (c.deref.ensures.value ∙ entries) in
-    let made : p < length kept.tables = omega (arith, c.requires.suits.parent, ap (length {A = Table}) c.requires.catalogue.tables, length-map kept.tables table_in) in
-    let known : p < length c.self.inside.tables.items = omega (arith, made, ap (length {A = StoredTable}) tables) in
-    let within : p < length c.self.inside.below.items = omega (arith, known, c.self.invariant.0.listed.count) in
-    let list : c.index.result.now ≡ get_or c.self.inside.below.items p [] = grind (arith, common_steps, elements, c.index.ensures) in
-    let numbers : c.numbers.result.now ≡ map number_of (children (by_place kept.entries) p) = c.numbers.ensures ∙ list ∙ c.self.invariant.0.listed.below p known ∙ ap (λ (es : List StoredEntry). map number_of (children (by_place es) p)) entries in
-    let count : c.count_shown.result ≡ partitions h s p = c.count_shown.ensures ∙ partitions_told kept h s p c.deref-2.result.now c.numbers.result.now txs.sound st flags numbers in
-    inl (refl, inl (omega (arith, count, c.if-count_shown-ge-PARTITION_LIMIT.true)))
+    let full : nat_le 1024 (partitions h s p) ≡ true = ap (λ n. nat_le 1024 (partitions h n p)) (sym (c.session_of-session.ensures h txs)) ∙ sym (c.is_full.ensures h txs st) ∙ c.if-is_full.true in
+    inl (refl, inl (grind (arith, nat_tests, full)))
 
-pub returns-then-levels_up-height_up_to-gt-LEVEL_LIMIT-clause-cause : goal.returns-then-levels_up-height_up_to-gt-LEVEL_LIMIT-clause-cause
-returns-then-levels_up-height_up_to-gt-LEVEL_LIMIT-clause-cause c h txs st =
-    let kept = c.args.self.now in
+pub returns-then-levels-height_up_to-gt-LEVEL_LIMIT-clause-cause : goal.returns-then-levels-height_up_to-gt-LEVEL_LIMIT-clause-cause
+returns-then-levels-height_up_to-gt-LEVEL_LIMIT-clause-cause c h txs st =
     let s = session_of (tx_events h) c.args.by.number in
     let p = c.args.parent.number in
-    let tables = ap (λ (k : KeptCatalogue). k.tables) c.self.view_is in
-    let entries = ap (λ (k : KeptCatalogue). k.entries) c.self.view_is in
-    let present : c.in-Ok-present_flags.flags.items ≡ map (present_by (tx_events h) s) kept.entries =
-    c.in-Ok-present_flags.ensures.is h txs ∙ ap (λ n. map (present_by (tx_events h) n) c.deref.result.now) (c.session_of-session.ensures h txs) ∙ ap (map (present_by (tx_events h) s)) (c.deref.ensures.value ∙ entries) in
-    let made : p < length kept.tables = omega (arith, c.requires.suits.parent, ap (length {A = Table}) c.requires.catalogue.tables, length-map kept.tables table_in) in
-    let known : p < length c.self.inside.tables.items = omega (arith, made, ap (length {A = StoredTable}) tables) in
-    let within : p < length c.self.inside.below.items = omega (arith, known, c.self.invariant.0.listed.count) in
-    let list : c.index.result.now ≡ get_or c.self.inside.below.items p [] = grind (arith, common_steps, elements, c.index.ensures) in
-    let numbers : c.numbers.result.now ≡ map number_of (children (by_place kept.entries) p) = c.numbers.ensures ∙ list ∙ c.self.invariant.0.listed.below p known ∙ ap (λ (es : List StoredEntry). map number_of (children (by_place es) p)) entries in
-    let count : c.count_shown.result ≡ partitions h s p = c.count_shown.ensures ∙ partitions_told kept h s p c.deref-2.result.now c.numbers.result.now txs.sound st (c.deref-2.ensures.value ∙ present) numbers in
-    let up : c.levels_up.result ≡ tables_above (above (entries_present h s)) p =
-    c.levels_up.ensures.is
-    ∙ ap (λ (es : List StoredEntry). tables_above (above (filter (is_flagged c.deref-4.result.now) (by_place es))) p) (c.deref-3.ensures.value ∙ entries)
-    ∙ above_told_flagged kept h s p c.deref-4.result.now txs.sound st (c.deref-4.ensures.value ∙ present) in
+    let session = c.session_of-session.ensures h txs in
+    let room : nat_le 1024 (partitions h s p) ≡ false = ap (λ n. nat_le 1024 (partitions h n p)) (sym session) ∙ sym (c.is_full.ensures h txs st) ∙ c.if-is_full.false in
+    let up : c.levels_up-levels.result ≡ tables_above (above (entries_present h s)) p = c.levels_up-levels.ensures.is h txs st ∙ ap (λ n. tables_above (above (entries_present h n)) p) session in
     let deep : c.height_up_to.result ≡ min 9 (height (ddl_tree h s c.args.child.number)) =
-    c.height_up_to.ensures ∙ ap (λ (t : TableTree). min 9 (height t)) (c.in-Ok.ensures h txs st ∙ ap (λ n. ddl_tree h n c.args.child.number) (c.session_of-session.ensures h txs)) in
-    inr (refl, omega (arith, count, c.if-count_shown-ge-PARTITION_LIMIT.false), too_deep (tables_above (above (entries_present h s)) p) (height (ddl_tree h s c.args.child.number)) c.height_up_to.result deep (omega (arith, up, c.if-levels_up-height_up_to-gt-LEVEL_LIMIT.true)))
+    c.height_up_to.ensures ∙ ap (λ (t : TableTree). min 9 (height t)) (c.in-Ok.ensures h txs st ∙ ap (λ n. ddl_tree h n c.args.child.number) session) in
+    inr (refl, grind (arith, nat_tests, room), too_deep (tables_above (above (entries_present h s)) p) (height (ddl_tree h s c.args.child.number)) c.height_up_to.result deep (omega (arith, up, c.if-levels-height_up_to-gt-LEVEL_LIMIT.true)))
 
 pub push_entry-requires-clause-beside : goal.push_entry-requires-clause-beside
 push_entry-requires-clause-beside c =
@@ -80,28 +56,16 @@ returns-in-Ok-push_entry-clause-added c h txs st =
 
 pub returns-in-Ok-push_entry-clause-cause : goal.returns-in-Ok-push_entry-clause-cause
 returns-in-Ok-push_entry-clause-cause c h txs st =
-    let kept = c.args.self.now in
     let s = session_of (tx_events h) c.args.by.number in
     let p = c.args.parent.number in
-    let tables = ap (λ (k : KeptCatalogue). k.tables) c.self.view_is in
-    let entries = ap (λ (k : KeptCatalogue). k.entries) c.self.view_is in
-    let present : c.in-Ok-present_flags.flags.items ≡ map (present_by (tx_events h) s) kept.entries =
-    c.in-Ok-present_flags.ensures.is h txs ∙ ap (λ n. map (present_by (tx_events h) n) c.deref.result.now) (c.session_of-session.ensures h txs) ∙ ap (map (present_by (tx_events h) s)) (c.deref.ensures.value ∙ entries) in
-    let made : p < length kept.tables = omega (arith, c.requires.suits.parent, ap (length {A = Table}) c.requires.catalogue.tables, length-map kept.tables table_in) in
-    let known : p < length c.self.inside.tables.items = omega (arith, made, ap (length {A = StoredTable}) tables) in
-    let within : p < length c.self.inside.below.items = omega (arith, known, c.self.invariant.0.listed.count) in
-    let list : c.index.result.now ≡ get_or c.self.inside.below.items p [] = grind (arith, common_steps, elements, c.index.ensures) in
-    let numbers : c.numbers.result.now ≡ map number_of (children (by_place kept.entries) p) = c.numbers.ensures ∙ list ∙ c.self.invariant.0.listed.below p known ∙ ap (λ (es : List StoredEntry). map number_of (children (by_place es) p)) entries in
-    let count : c.count_shown.result ≡ partitions h s p = c.count_shown.ensures ∙ partitions_told kept h s p c.deref-2.result.now c.numbers.result.now txs.sound st (c.deref-2.ensures.value ∙ present) numbers in
-    let up : c.levels_up.result ≡ tables_above (above (entries_present h s)) p =
-    c.levels_up.ensures.is
-    ∙ ap (λ (es : List StoredEntry). tables_above (above (filter (is_flagged c.deref-4.result.now) (by_place es))) p) (c.deref-3.ensures.value ∙ entries)
-    ∙ above_told_flagged kept h s p c.deref-4.result.now txs.sound st (c.deref-4.ensures.value ∙ present) in
+    let session = c.session_of-session.ensures h txs in
+    let room : nat_le 1024 (partitions h s p) ≡ false = ap (λ n. nat_le 1024 (partitions h n p)) (sym session) ∙ sym (c.is_full.ensures h txs st) ∙ c.if-is_full.false in
+    let up : c.levels_up-levels.result ≡ tables_above (above (entries_present h s)) p = c.levels_up-levels.ensures.is h txs st ∙ ap (λ n. tables_above (above (entries_present h n)) p) session in
     let deep : c.height_up_to.result ≡ min 9 (height (ddl_tree h s c.args.child.number)) =
-    c.height_up_to.ensures ∙ ap (λ (t : TableTree). min 9 (height t)) (c.in-Ok.ensures h txs st ∙ ap (λ n. ddl_tree h n c.args.child.number) (c.session_of-session.ensures h txs)) in
-    let same : c.self.inside.added ≡ kept.added = ap (λ (k : KeptCatalogue). k.added) c.self.view_is in
+    c.height_up_to.ensures ∙ ap (λ (t : TableTree). min 9 (height t)) (c.in-Ok.ensures h txs st ∙ ap (λ n. ddl_tree h n c.args.child.number) session) in
+    let same : c.self.inside.added ≡ c.args.self.now.added = ap (λ (k : KeptCatalogue). k.added) c.self.view_is in
     record {
-      partitions = omega (arith, count, c.if-count_shown-ge-PARTITION_LIMIT.false);
+      partitions = grind (arith, nat_tests, room);
       added = omega (arith, same, st.added, c.if-self-ge-ENTRY_LIMIT.false);
-      levels = deep_enough (tables_above (above (entries_present h s)) p) (height (ddl_tree h s c.args.child.number)) c.height_up_to.result deep (omega (arith, up, c.if-levels_up-height_up_to-gt-LEVEL_LIMIT.false));
+      levels = deep_enough (tables_above (above (entries_present h s)) p) (height (ddl_tree h s c.args.child.number)) c.height_up_to.result deep (omega (arith, up, c.if-levels-height_up_to-gt-LEVEL_LIMIT.false));
     }

@@ -6,13 +6,13 @@ use Rattle.part_catalog.specs.declared.stored.StoredTable.{StoredTable}
 use Rattle.part_catalog.specs.declared.stored.StoredEntry.{StoredEntry}
 use Rattle.part_catalog.specs.Kept.{KeptCatalogue, IsBetween, IsKept, fresh, number_of, with_place, by_place}
 use Rattle.part_catalog.specs.Ordered.{stands_behind}
-use Rattle.part_catalog.proofs.Adding.{HaveOrders, can_place}
+use Rattle.part_catalog.proofs.Adding.{HaveOrders, can_place, stand_in_order}
 use Rattle.part_catalog.proofs.KeptTrees.{none_kept}
 use Rattle.part_catalog.proofs.Listed.{kept_with_entry, new_list}
 use Rattle.part_catalog.proofs.catalog.Catalog.push_entry.Goals as goal
 
-pub place_in-at-requires : goal.place_in-at-requires
-place_in-at-requires c =
+pub place_in-at-requires-clause-orders : goal.place_in-at-requires-clause-orders
+place_in-at-requires-clause-orders c =
     let E = c.self.inside.entries.items in
     let B = c.self.inside.below.items in
     let p = c.args.entry.parent.number in
@@ -23,6 +23,15 @@ place_in-at-requires c =
     let list : c.index.result.now ≡ get_or B p [] = grind (arith, common_steps, elements, c.index.ensures) in
     let are : c.numbers.result.now ≡ map number_of (children (by_place c.deref.result.now) p) = c.numbers.ensures ∙ list ∙ c.self.invariant.0.listed.below p known ∙ ap (λ (es : List StoredEntry). map number_of (children (by_place es) p)) (sym rows) in
     can_place c.deref.result.now c.args.entry c.numbers.result.now are (subst (λ (es : List StoredEntry). HaveOrders es c.args.entry) (sym (rows ∙ entries)) c.requires.beside)
+
+pub place_in-at-requires-clause-sorted : goal.place_in-at-requires-clause-sorted
+place_in-at-requires-clause-sorted c =
+    let B = c.self.inside.below.items in
+    let p = c.args.entry.parent.number in
+    let known : p < length c.self.inside.tables.items = omega (arith, c.requires.between.parent, ap (λ (k : KeptCatalogue). length k.tables) c.self.view_is) in
+    let within : p < length B = omega (arith, known, c.self.invariant.0.listed.count) in
+    let list : c.index.result.now ≡ get_or B p [] = grind (arith, common_steps, elements, c.index.ensures) in
+    stand_in_order c.deref.result.now p c.numbers.result.now (c.numbers.ensures ∙ list ∙ c.self.invariant.0.listed.below p known ∙ ap (λ (es : List StoredEntry). map number_of (children (by_place es) p)) (sym c.deref.ensures.value))
 
 pub invariant_of-self-2 : goal.invariant_of-self-2
 invariant_of-self-2 c =
