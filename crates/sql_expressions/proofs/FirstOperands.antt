@@ -1,8 +1,9 @@
 -- A level is its first operand, and what stands behind that, from the tightest operators to the loosest.
-use Rattle.std.proofs.Common.{◌≡◌, ◌-◌, ℕ, zero, suc, Bool, true, false, List, length, Result, Ok, Err, refl, ap, sym, ◌∙◌, arith}
+use Rattle.std.proofs.Common.{◌≡◌, ◌-◌, ℕ, zero, suc, Bool, true, false, List, [], ◌∷◌, length, Result, Ok, Err, refl, ap, sym, ◌∙◌, arith}
 use Rattle.grammar.specs.Reading.{Class, Reading, Stop, Rule, ◌>>=◌, given, begins_in}
 use Rattle.grammar.specs.Repeats.{always, read_repeats, repeats, second_of}
 use Rattle.grammar.specs.Gives.{Refuses}
+use Rattle.grammar.proofs.Laws.{Disjoint}
 use Rattle.grammar.specs.declared.refused.Refused.{Refused}
 use Rattle.grammar.specs.declared.refused.Refused.TheVariants.{NoMemory, Syntax, Limit}
 use Rattle.sql_tokens.specs.Classes.{a}
@@ -10,7 +11,7 @@ use Rattle.sql_tokens.specs.declared.kind.TokenKind.TheVariants as word
 use Rattle.sql_tokens.specs.declared.token.Token.{Token}
 use Rattle.sql_expressions.specs.Grammar.{any, below, comparison_at, freed, nullity_at, rules, under_depth}
 use Rattle.sql_expressions.specs.Levels.{Deep, Parts, Room, Rules, add_part, has_room, is_product, is_sum, join, list_of, negation, null_join, null_or_not, only_part, parts_room}
-use Rattle.sql_expressions.specs.Views.{at, behind, behind_at, behind_sign, climbed, first_part, joint_sign, joint_value, maybe_compared, maybe_tested, more_of_joint, not_comes, operand_of, part_of, reach}
+use Rattle.sql_expressions.specs.Views.{at, behind, behind_at, behind_sign, climbed, ends_part, first_part, joint_sign, joint_value, maybe_compared, maybe_tested, more_of_joint, not_comes, operand_of, part_of, reach}
 use Rattle.sql_expressions.specs.declared.signs.Behind.{Behind}
 use Rattle.sql_expressions.specs.declared.signs.Behind.TheVariants as places
 use Rattle.sql_expressions.specs.declared.signs.Chain.TheVariants as chains
@@ -20,6 +21,7 @@ use Rattle.sql_expressions.specs.declared.signs.Level.{Level}
 use Rattle.sql_expressions.specs.declared.signs.Level.TheVariants as at_levels
 use Rattle.sql_expressions.proofs.Alone.{ends_there, single}
 use Rattle.sql_expressions.proofs.Deeper.{second_read}
+use Rattle.sql_expressions.proofs.WordLaws.{apart}
 
 -- readers one after another
 then_then : {A B C : Type 0} (r : Result A Stop) (f : A → Result B Stop) (g : B → Result C Stop) → (r >>= f) >>= g ≡ (r >>= λ x. f x >>= g)
@@ -194,6 +196,27 @@ module _ (text : List ℕ) (n place next count more : ℕ) (h : count ≡ suc mo
 
   pub step_skips : begins_in (behind_sign b) ts ≡ false → climbed text n next more x ts ≡ climbed text n place count x ts
   step_skips e = step_reads x ts (nothing_behind text n b x ts e)
+
+-- what ends a part begins none of these
+ends_apart : (b : Behind) → Disjoint ends_part (behind_sign b)
+ends_apart places.Products = apart ends_part (behind_sign places.Products) (λ t. refl) refl
+ends_apart places.Sums = apart ends_part (behind_sign places.Sums) (λ t. refl) refl
+ends_apart places.Test = apart ends_part (behind_sign places.Test) (λ t. refl) refl
+ends_apart places.Comparison = apart ends_part (behind_sign places.Comparison) (λ t. refl) refl
+ends_apart places.Nulls = apart ends_part (behind_sign places.Nulls) (λ t. refl) refl
+ends_apart places.Conjunctions = apart ends_part (behind_sign places.Conjunctions) (λ t. refl) refl
+ends_apart places.Disjunctions = apart ends_part (behind_sign places.Disjunctions) (λ t. refl) refl
+
+no_sign : (b : Behind) (ts : List Token) → begins_in ends_part ts ≡ true → begins_in (behind_sign b) ts ≡ false
+no_sign b [] h = refl
+no_sign b (t ∷ ts) h = ends_apart b t h
+
+pub part_ended : (text : List ℕ) (n place count : ℕ) (x : Deep) (ts : List Token) → begins_in ends_part ts ≡ true → climbed text n place count x ts ≡ Ok (x, ts)
+unfolding climbed
+part_ended text n place zero x ts h = refl
+part_ended text n place (suc count) x ts h =
+    ap (λ z. z >>= from text n (suc place) count) (nothing_behind text n (behind_at place) x ts (no_sign (behind_at place) ts h))
+    ∙ part_ended text n (suc place) count x ts h
 
 pub all_read : (text : List ℕ) (n place count : ℕ) (x : Deep) (ts : List Token) → count ≡ 0 → climbed text n place count x ts ≡ Ok (x, ts)
 unfolding climbed

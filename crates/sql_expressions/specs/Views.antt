@@ -1,5 +1,5 @@
 -- How the code sees what it reads, and its levels by number.
-use Rattle.std.specs.Prelude.{◌≡◌, ◌<◌, ◌≤◌, ◌⊎◌, ℕ, zero, suc, Bool, false, if◌then◌else◌, nat_lt, List, [], ◌∷◌, ◌++◌, length, map, max}
+use Rattle.std.specs.Prelude.{◌≡◌, ◌<◌, ◌≤◌, ◌⊎◌, ℕ, zero, suc, Bool, false, ◌||◌, if◌then◌else◌, nat_lt, List, [], ◌∷◌, ◌++◌, length, map, max}
 use Rattle.grammar.specs.Reading.{Class, Reading, Rule, ◌>>=◌, given, begins_in, one}
 use Rattle.sql_tokens.specs.declared.kind.TokenKind.{TokenKind}
 use Rattle.sql_tokens.specs.declared.kind.TokenKind.TheVariants as word
@@ -161,6 +161,10 @@ behind_sign places.Comparison = level.is_comparison
 behind_sign places.Nulls = a word.Is
 behind_sign places.Conjunctions = a word.And
 behind_sign places.Disjunctions = a word.Or
+
+-- what may stand at none of these places, so that it ends them all
+abbrev pub ends_part : Class Token
+ends_part t = a word.Comma t || a word.CloseParenthesis t
 
 -- the same by number, and how many of them an expression of a level may have
 abbrev pub behind_at : ℕ → Behind

@@ -98,6 +98,13 @@ pub(crate) fn behind_comes(place: Behind, tokens: &[Token]) -> bool
     }
 }
 
+/// Whether a comma or a closing parenthesis comes: nothing more belongs to an operand before it.
+pub(crate) fn part_ends(tokens: &[Token]) -> bool
+    ensures { result ≡ begins_in views.ends_part tokens.now }
+{
+    comes(tokens, TokenKind::Comma) || comes(tokens, TokenKind::CloseParenthesis)
+}
+
 /// Whether a NOT comes that begins an expression of the level.
 pub(crate) fn not_comes(level: Level, tokens: &[Token]) -> bool
     ensures { result ≡ views.not_comes level tokens.now }

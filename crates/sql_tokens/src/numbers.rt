@@ -123,6 +123,9 @@ pub fn parameter(z: &[u8]) -> Piece
     }
 }
 
+// Below this a number has room for one more digit.
+const SHORT: u64 = 100_000_000_000_000_000;
+
 fn with_digit(n: u64, b: u8) -> u64
     requires { n ≤ 2 ^ 63 }
     ensures value { result ≡ min NO_BIGINT (numbers.with_digit n b) }
@@ -130,6 +133,9 @@ fn with_digit(n: u64, b: u8) -> u64
 {
     if !belongs(Class::Digit, b) {
         return n;
+    }
+    if n < SHORT {
+        return n * 10 + u64::from(b - b'0');
     }
     let longer = u128::from(n) * 10 + u128::from(b - b'0');
     if longer < u128::from(NO_BIGINT) {

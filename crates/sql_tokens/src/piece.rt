@@ -1,5 +1,5 @@
 ghost use Rattle.std.specs.Prelude.{◌≡◌, ◌<◌, ◌≤◌, ◌+◌, ◌^◌, length, take, slice_index, true};
-ghost use Rattle.std.specs.Str.{is_utf8};
+ghost use Rattle.std.specs.Str.{is_utf8, IsAscii};
 ghost use Rattle.sql_tokens.specs.Pieces as pieces;
 
 use crate::TokenKind;
@@ -63,9 +63,30 @@ fn front(z: &[u8]) -> Piece
     }
 }
 
+// The most bytes that are asked one by one.
+const FEW: usize = 24;
+
+// Whether the bytes are few, and each is ASCII, as in most pieces.
+fn are_few_ascii(bytes: &[u8]) -> bool
+    ensures { result ≡ true → IsAscii bytes.now }
+{
+    if bytes.len() > FEW {
+        return false;
+    }
+    for b in bytes {
+        if *b >= 128 {
+            return false;
+        }
+    }
+    true
+}
+
 fn is_text(bytes: &[u8]) -> bool
     ensures { result ≡ is_utf8 bytes.now }
 {
+    if are_few_ascii(bytes) {
+        return true;
+    }
     match std::str::from_utf8(bytes) {
         Ok(_) => true,
         Err(_) => false,

@@ -9,7 +9,9 @@ use crate::levels::conjunctions::more_of_joint;
 use crate::levels::negations::{inverted_first, more_nulls};
 use crate::levels::operands::unary;
 use crate::levels::sums::more_operands;
-use crate::signs::{Behind, Chain, Joint, Level, behind_at, behind_comes, not_comes, reach};
+use crate::signs::{
+    Behind, Chain, Joint, Level, behind_at, behind_comes, not_comes, part_ends, reach,
+};
 use grammar::Refused;
 use sql_tokens::Token;
 use std::alloc::Global;
@@ -104,5 +106,8 @@ pub(crate) fn at_level<'a>(
         return inverted_level(alloc, text, level, left, tokens, budget);
     }
     let rest = unary(alloc, text, left, tokens, budget)?;
+    if part_ends(rest) {
+        return Ok(rest);
+    }
     climbed(alloc, text, 0, level, left, rest, budget)
 }

@@ -5,7 +5,7 @@ use Rattle.grammar.specs.Repeats.{always}
 use Rattle.grammar.proofs.Steps.{repeats_more, repeats_done, repeats_end, repeats_fail}
 use Rattle.grammar.proofs.WholeLaws.{gives_by}
 use Rattle.sql_expressions.proofs.Deeper.{compared_deeper, named_deeper, negation_deeper, operand_deeper, part_deeper, tested_deeper, unary_deeper}
-use Rattle.sql_expressions.proofs.FirstOperands.{at_operand, at_negation, not_begins, list_read, first_refuses, then_reads, no_joint, all_read, step_reads, step_refuses, step_skips}
+use Rattle.sql_expressions.proofs.FirstOperands.{at_operand, at_negation, not_begins, list_read, first_refuses, then_reads, no_joint, all_read, part_ended, step_reads, step_refuses, step_skips}
 use Rattle.sql_tokens.specs.Classes.{a}
 use Rattle.sql_tokens.specs.declared.kind.TokenKind.TheVariants as kinds
 use Rattle.sql_expressions.specs.Grammar as grammar
@@ -123,6 +123,11 @@ climbs::at_level-returns-clause-reads t c =
     gives_by _ c.climbed.result _ _
     (then_reads _ _ _ (at_operand c.args.text.now c.args.budget c.args.tokens.now c.args.level (sym c.not_comes.ensures ∙ c.if-not_comes.false)) _ c.in_ok-rest.ensures.reads)
     c.climbed.ensures.reads
+
+pub climbs::at_level-returns-then-part_ends-clause-reads : goal.climbs::at_level-returns-then-part_ends-clause-reads
+climbs::at_level-returns-then-part_ends-clause-reads t c =
+    then_reads _ _ _ (at_operand c.args.text.now c.args.budget c.args.tokens.now c.args.level (sym c.not_comes.ensures ∙ c.if-not_comes.false)) _ c.in_ok-rest.ensures.reads
+    ∙ part_ended c.args.text.now c.args.budget 0 (views.reach c.args.level - 0) _ _ (sym c.part_ends.ensures ∙ c.if-part_ends.true)
 
 -- behind a NOT
 pub climbs::inverted_level-inverted_first-requires : goal.climbs::inverted_level-inverted_first-requires
