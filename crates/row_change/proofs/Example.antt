@@ -59,7 +59,7 @@ told row = own_null_faults (p ∷ []) p.id row ++ (check_faults (p ∷ []) path 
 -- p is named itself
 record IsNamed (target : Target) : Type 0 where
   table : target.table ≡ p.id
-  path : target.path.items ≡ path
+  path : target.path ≡ path
   is_named : target.is_named ≡ true
 
 named : (target : Target) (row : List Value) → IsNamed target → target_faults (p ∷ []) target row ≡ told row

@@ -6,6 +6,7 @@ pub mod TablesByLeaf
 pub mod Leading
 pub mod Made
 pub mod Notes
+pub mod Ordered
 pub mod Placed
 pub mod Places
 pub mod Rows

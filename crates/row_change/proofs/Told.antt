@@ -23,10 +23,10 @@ use Rattle.row_change.proofs.Made.{paths_are_made}
 use Rattle.row_change.proofs.Targets.{last_is_made}
 
 -- the same of a table that is not named: of the path only its CHECKs are asked
-told_from_above : (tables : List Table) (h : History) (s : ℕ) (t : TableNo) (target : Target) (row : List Value) → target.table ≡ t → refused Checks row target.path.items ≡ refused Checks row (path_of h s t.number) → target.is_named ≡ false
+told_from_above : (tables : List Table) (h : History) (s : ℕ) (t : TableNo) (target : Target) (row : List Value) → target.table ≡ t → refused Checks row target.path ≡ refused Checks row (path_of h s t.number) → target.is_named ≡ false
     → leaf_faults tables (Some target) row ≡ table_faults tables t (path_of h s t.number) false row
 told_from_above tables h s t target row table refuses is =
-    ap (λ n. table_faults tables target.table target.path.items n row) is
+    ap (λ n. table_faults tables target.table target.path n row) is
     ∙ (ap (λ r. own_null_faults tables target.table row ++ (check_told tables row r ++ [])) refuses ∙ ap (λ x. table_faults tables x (path_of h s t.number) false row) table)
 
 pub record IsFound (P : Target → Type 0) (leaf : LeafId) (found : Option Target) : Type 0 where
@@ -57,7 +57,7 @@ pub one_told : (h : History) (s : ℕ) (tree : TableTree) (leaf : LeafId) (targe
 one_told h s tree leaf targets row found =
     let t = found.target in
     let table = holder_is h s tree t found.holds in
-    let refuses : refused Checks row t.path.items ≡ refused Checks row (path_of h s (holder tree t.leaf).number) = found.holds.path.refuses row ∙ ap (λ (x : TableNo). refused Checks row (path_of h s x.number)) table in
+    let refuses : refused Checks row t.path ≡ refused Checks row (path_of h s (holder tree t.leaf).number) = found.holds.path.refuses row ∙ ap (λ (x : TableNo). refused Checks row (path_of h s x.number)) table in
     let told = told_from_above (tables_of h) h s (holder tree t.leaf) t row table refuses found.holds.is_named in
     ap (λ o. leaf_faults (tables_of h) o row) found.is ∙ (told ∙ ap (λ l. holder_faults h s tree l row) found.same)
 

@@ -52,11 +52,11 @@ check_faults tables path row = check_told tables row (refused Checks row path)
 
 -- of a leaf that is named itself the bounds are asked too
 abbrev pub named_faults : List Table → Target → List Value → List Fault
-named_faults tables target row = if target.is_named then bounds_faults tables target.path.items row else []
+named_faults tables target row = if target.is_named then bounds_faults tables target.path row else []
 
 -- NOT NULL of the leaf's own table, then the kept CHECKs along its path, then the bounds
 abbrev pub target_faults : List Table → Target → List Value → List Fault
-target_faults tables target row = own_null_faults tables target.table row ++ (check_faults tables target.path.items row ++ named_faults tables target row)
+target_faults tables target row = own_null_faults tables target.table row ++ (check_faults tables target.path row ++ named_faults tables target row)
 
 -- what is known of a leaf
 abbrev pub is_into : LeafId → Target → Bool
@@ -112,10 +112,10 @@ IsMade (Err NoMemory) kept h made = Unit {0}
 
 -- the tables of a target are among the first n
 abbrev pub IsTargetNumbered : ℕ → Target → Type 0
-IsTargetNumbered n target = (target.table.number < n) × All (IsPartNumbered n) target.path.items
+IsTargetNumbered n target = (target.table.number < n) × All (IsPartNumbered n) target.path
 
 abbrev pub FitsTargets : List Target → List Value → Type 0
-FitsTargets targets row = All (λ t. All (PartFits row) t.path.items) targets
+FitsTargets targets row = All (λ t. All (PartFits row) t.path) targets
 
 abbrev pub IsLeafKnown : ℕ → LeafId → Type 0
 IsLeafKnown n leaf = leaf.number < n

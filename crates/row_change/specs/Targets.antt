@@ -51,7 +51,7 @@ pub record IsTargetOf (h : History) (session : ℕ) (tree : TableTree) (target :
   pub tables : List TableNo
   pub way : way_to target.leaf tree ≡ Some tables
   pub table : target.table ≡ last_table (root tree) tables
-  pub path : HasChecksOf (path_of h session target.table.number) target.path.items
+  pub path : HasChecksOf (path_of h session target.table.number) target.path
   pub is_named : target.is_named ≡ false
 
 -- a table of the tree has the leaf
@@ -71,7 +71,7 @@ RoutedHaveWays = (row : List Value) (tree : TableTree) (leaf : LeafId) → route
 -- a row of the columns of the tree's table may be asked of the path of each such target, whose tables are made
 abbrev pub TargetsFit : Type 0
 TargetsFit = (h : History) (session : ℕ) (t : TableNo) (snap : TakenSnapshot) (row : List Value) (target : Target) → AreCatalogueSound h → AreSiblings (entries_present h session) → IsRowIn h row t → IsTargetOf h session (tree_of h session t.number snap) target
-    → All (PartFits row) target.path.items × IsTargetNumbered (length (tables_made (catalogue_events h))) target
+    → All (PartFits row) target.path × IsTargetNumbered (length (tables_made (catalogue_events h))) target
 
 -- ---- the table that has a leaf, and what it says of a row
 

@@ -1,4 +1,4 @@
-ghost use Rattle.std.specs.Prelude.{◌≡◌, ◌++◌, ◌∷◌, [], IfOk, OnOk};
+ghost use Rattle.std.specs.Prelude.{◌≡◌, ℕ, ◌<◌, ◌++◌, ◌∷◌, [], true, length, get_or, IfOk, OnOk};
 ghost use Rattle.row_change.specs.FullRows as full_rows;
 
 use pg_values::{NoMemory, Row, Value, copy_value};
@@ -35,16 +35,50 @@ pub fn add_value(row: &mut Row, value: Value) -> Result<(), NoMemory>
     Ok(())
 }
 
-/// The row of a table of so many columns from the values for the named ones. Columns that are not named
-/// are null.
 #[tactic(auto, using(crate::proofs::Steps::full_row_more))]
-pub fn full_row(alloc: Global, width: usize, named: &[usize], values: &Row) -> Result<Row, NoMemory>
+fn fill_row(alloc: Global, width: usize, named: &[usize], values: &Row) -> Result<Row, NoMemory>
     ensures { IfOk result (λ row. row ≡ full_rows.full_row width named.now values.now) }
 {
-    let mut row = Row::new(alloc);
+    let mut row = Row::with_room(alloc, width)?;
     for column in 0..width {
         let value = value_for(alloc, named, values.as_slice(), column)?;
         add_value(&mut row, value)?;
     }
     Ok(row)
+}
+
+fn are_in_order(named: &[usize]) -> bool
+    ensures { result ≡ true → (k : ℕ) → k < length named.now → get_or named.now k 0 ≡ k }
+{
+    for place in 0..named.len() {
+        if named[place] != place {
+            return false;
+        }
+    }
+    true
+}
+
+// All columns are named in their order, and each has its value.
+#[tactic(auto, using(crate::proofs::Ordered::in_order))]
+fn is_full(width: usize, named: &[usize], values: &Row) -> bool
+    ensures { result ≡ true → full_rows.full_row width named.now values.now ≡ values.now }
+{
+    if named.len() != width {
+        return false;
+    }
+    if values.len() != width {
+        return false;
+    }
+    are_in_order(named)
+}
+
+/// The row of a table of so many columns from the values for the named ones, which it is itself where all are
+/// named in their order. Columns that are not named are null.
+pub fn full_row(alloc: Global, width: usize, named: &[usize], values: Row) -> Result<Row, NoMemory>
+    ensures { IfOk result (λ row. row ≡ full_rows.full_row width named.now values) }
+{
+    if is_full(width, named, &values) {
+        return Ok(values);
+    }
+    fill_row(alloc, width, named, &values)
 }

@@ -17,7 +17,7 @@ use crate::Target;
 use crate::by_leaf::ByLeaf;
 use crate::holders::{Holders, holders_of};
 use part_catalog::Catalog;
-use pg_values::{LeafId, NoMemory, TableNo};
+use pg_values::{LeafId, ListOf, NoMemory, TableNo};
 use row_router::{PathPart, Tree};
 use std::alloc::Global;
 use tx_table::TxTable;
@@ -59,7 +59,7 @@ pub fn target_of(
     Ok(Target {
         leaf,
         table,
-        path,
+        path: ListOf::from_vec(path),
         is_named: false,
     })
 }

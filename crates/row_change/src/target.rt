@@ -1,4 +1,4 @@
-use pg_values::{LeafId, TableNo};
+use pg_values::{LeafId, ListOf, TableNo};
 use row_router::PathPart;
 
 /// A leaf that takes rows: its table, what of the path from the table upwards is asked of a row, and whether
@@ -7,6 +7,6 @@ use row_router::PathPart;
 pub struct Target {
     pub leaf: LeafId,
     pub table: TableNo,
-    pub path: Vec<PathPart>,
+    pub path: ListOf<PathPart>,
     pub is_named: bool,
 }

@@ -97,6 +97,9 @@ pub fn check_kept(
     ensures { (h : History) → CatalogueStands catalog.now h →
         IsAnswer result (or_first (check_faults (tables_made (catalogue_events h)) path.now row.now) tt) }
 {
+    if let [] = path {
+        return Ok(());
+    }
     match fits_path(path, row, PathTest::Checks) {
         None => Ok(()),
         Some(table) => Err(Refusal::Sql(refused_by_check(alloc, catalog, table, row)?)),
@@ -104,13 +107,13 @@ pub fn check_kept(
 }
 
 fn check_named(alloc: Global, catalog: &Catalog, target: &Target, row: &Row) -> Result<(), Refusal>
-    requires fits { All (PartFits row.now) target.now.path.items }
+    requires fits { All (PartFits row.now) target.now.path }
     requires known { IsTargetNumbered (length catalog.now.tables) target.now }
     ensures { (h : History) → CatalogueStands catalog.now h →
         IsAnswer result (or_first (named_faults (tables_made (catalogue_events h)) target.now row.now) tt) }
 {
     if target.is_named {
-        check_bounds(alloc, catalog, &target.path, row)
+        check_bounds(alloc, catalog, target.path.as_slice(), row)
     } else {
         Ok(())
     }
@@ -124,12 +127,12 @@ pub fn check_row(
     target: &Target,
     row: &Row,
 ) -> Result<(), Refusal>
-    requires fits { All (PartFits row.now) target.now.path.items }
+    requires fits { All (PartFits row.now) target.now.path }
     requires known { IsTargetNumbered (length catalog.now.tables) target.now }
     ensures { (h : History) → CatalogueStands catalog.now h →
         IsAnswer result (or_first (target_faults (tables_made (catalogue_events h)) target.now row.now) tt) }
 {
     check_own_nulls(alloc, catalog, target.table, row)?;
-    check_kept(alloc, catalog, &target.path, row)?;
+    check_kept(alloc, catalog, target.path.as_slice(), row)?;
     check_named(alloc, catalog, target, row)
 }

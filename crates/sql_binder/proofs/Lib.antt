@@ -9,3 +9,4 @@ pub mod Places
 pub mod Settings
 pub mod Steps
 mod WithoutParams
+pub mod WrittenOut

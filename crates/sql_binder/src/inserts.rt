@@ -7,9 +7,11 @@ ghost use Rattle.expression_binder.specs.Firsts.{or_first, IsAnswerBy};
 ghost use Rattle.expression_binder.specs.Kinds as kinds_spec;
 ghost use Rattle.expression_binder.specs.Operands.{operand_faults, typed};
 ghost use Rattle.sql_binder.specs.Inserts as inserts;
-ghost use Rattle.sql_binder.specs.Inserts.{bound_insert};
+ghost use Rattle.sql_binder.specs.Inserts.{bound_insert, values_meant};
 ghost use Rattle.cond_logic.specs.Asked.{insert_meant};
 
+use crate::InsertValues;
+use crate::plain::{is_plain, plain_value};
 use cond_logic::InsertAsk;
 use expression_binder::{
     Names, Param, ScopeColumn, bind_constant, check_assigned, check_count, check_operand,
@@ -186,6 +188,9 @@ pub(crate) fn check_value(
 ) -> Result<(), Refusal>
     ensures { IsAnswer result (or_first (operand_faults names.now (tree e.now) ++ kinds_spec.assigned_faults kind (typed names.now (tree e.now)).given) tt) }
 {
+    if is_plain(kind, e) {
+        return Ok(());
+    }
     check_operand(alloc, names, e)?;
     check_assigned(alloc, kind, typed_of(names, e).given)
 }
@@ -246,6 +251,9 @@ pub(crate) fn stored_value(
 ) -> Result<Value, Refusal>
     ensures { IsAnswer result (inserts.stored_value names.now kind (tree e.now)) }
 {
+    if let Some(value) = plain_value(kind, e) {
+        return Ok(value);
+    }
     let value = bind_constant(alloc, names, kind, e)?;
     store(alloc, kind, value)
 }
@@ -265,7 +273,7 @@ fn bind_row(
 ) -> Result<Row, Refusal>
     ensures { IsAnswer result (or_first (inserts.value_constants names.now kinds.now (listed (map tree values.now))) (inserts.row_values names.now kinds.now (listed (map tree values.now)))) }
 {
-    let mut row = Row::new(alloc);
+    let mut row = Row::with_room(alloc, kinds.len())?;
     let mut wanted = kinds;
     for e in values {
         match wanted.split_first() {
@@ -280,8 +288,14 @@ fn bind_row(
     Ok(row)
 }
 
-fn add_row(rows: &mut RowList, row: Row) -> Result<(), NoMemory>
-    ensures { OnOk result (rows.new ≡ rows.old ++ row ∷ []) }
+fn room_for(alloc: Global, rows: usize) -> Result<Vec<Row>, NoMemory>
+    ensures { IfOk result (λ v. v.items ≡ []) }
+{
+    Ok(Vec::with_capacity(alloc, rows)?)
+}
+
+fn add_row(rows: &mut Vec<Row>, row: Row) -> Result<(), NoMemory>
+    ensures { OnOk result (rows.new.items ≡ rows.old.items ++ row ∷ []) }
 {
     rows.push(row)?;
     Ok(())
@@ -292,15 +306,15 @@ fn bind_rows(
     names: &Names<'_>,
     kinds: &[Kind],
     rows: &[ExprList],
-) -> Result<RowList, Refusal>
+) -> Result<ListOf<Row>, Refusal>
     ensures { IsAnswer result (or_first (inserts.row_constants names.now kinds.now (map trees rows.now)) (inserts.all_values names.now kinds.now (map trees rows.now))) }
 {
-    let mut made = RowList::new(alloc);
+    let mut made = room_for(alloc, rows.len())?;
     for row in rows {
         let values = bind_row(alloc, names, kinds, row.as_slice())?;
         add_row(&mut made, values)?;
     }
-    Ok(made)
+    Ok(ListOf::from_vec(made))
 }
 
 // ---- the statement
@@ -316,7 +330,7 @@ fn check_and_bind(
     names: &Names<'_>,
     kinds: &[Kind],
     rows: &[ExprList],
-) -> Result<RowList, Refusal>
+) -> Result<ListOf<Row>, Refusal>
     ensures { IsAnswer result (or_first (inserts.row_faults names.now kinds.now (length kinds.now) (map trees rows.now) ++ inserts.row_constants names.now kinds.now (map trees rows.now)) (inserts.all_values names.now kinds.now (map trees rows.now))) }
 {
     check_rows(alloc, names, kinds, rows)?;
@@ -329,12 +343,12 @@ fn bind_into(
     columns: &[ScopeColumn],
     targets: Vec<usize>,
     rows: &[ExprList],
-) -> Result<InsertAsk, Refusal>
-    ensures { IsAnswerBy insert_meant result (or_first (inserts.row_faults names.now (inserts.kinds_of columns.now targets.items) (length targets.items) (map trees rows.now) ++ inserts.row_constants names.now (inserts.kinds_of columns.now targets.items) (map trees rows.now)) (record { columns = targets.items; rows = inserts.all_values names.now (inserts.kinds_of columns.now targets.items) (map trees rows.now) })) }
+) -> Result<InsertValues, Refusal>
+    ensures { IsAnswerBy values_meant result (or_first (inserts.row_faults names.now (inserts.kinds_of columns.now targets.items) (length targets.items) (map trees rows.now) ++ inserts.row_constants names.now (inserts.kinds_of columns.now targets.items) (map trees rows.now)) (record { columns = targets.items; rows = inserts.all_values names.now (inserts.kinds_of columns.now targets.items) (map trees rows.now) })) }
 {
     let kinds = kinds_of(alloc, columns, &targets)?;
     let rows = check_and_bind(alloc, names, &kinds, rows)?;
-    Ok(InsertAsk {
+    Ok(InsertValues {
         columns: ListOf::from_vec(targets),
         rows,
     })
@@ -343,6 +357,32 @@ fn bind_into(
 /// The INSERT by places and values, into a table with the columns; or its first fault. The column list
 /// comes first: 42703, or 42601 for a column that stands there twice. Then names and kinds in the values
 /// of each row, and their count: 42601. Then constants.
+pub fn bind_insert_values(
+    alloc: Global,
+    insert: &Insert,
+    columns: &[ScopeColumn],
+    params: &[Param],
+    session: u32,
+) -> Result<InsertValues, Refusal>
+    ensures { IsAnswerBy values_meant result (bound_insert columns.now params.now session insert.now.columns (map trees insert.now.rows)) }
+{
+    check_named(alloc, columns, &insert.columns)?;
+    let rows = insert.rows.as_slice();
+    let targets = targets(alloc, columns, &insert.columns, rows)?;
+    bind_into(alloc, &value_scope(params, session), columns, targets, rows)
+}
+
+fn list_rows(alloc: Global, rows: ListOf<Row>) -> Result<RowList, NoMemory>
+    ensures { IfOk result (λ list. list ≡ rows) }
+{
+    let mut list = RowList::new(alloc);
+    for row in rows.into_vec() {
+        list.push(row)?;
+    }
+    Ok(list)
+}
+
+/// The same as what the statement asks for.
 pub fn bind_insert(
     alloc: Global,
     insert: &Insert,
@@ -352,8 +392,9 @@ pub fn bind_insert(
 ) -> Result<InsertAsk, Refusal>
     ensures { IsAnswerBy insert_meant result (bound_insert columns.now params.now session insert.now.columns (map trees insert.now.rows)) }
 {
-    check_named(alloc, columns, &insert.columns)?;
-    let rows = insert.rows.as_slice();
-    let targets = targets(alloc, columns, &insert.columns, rows)?;
-    bind_into(alloc, &value_scope(params, session), columns, targets, rows)
+    let InsertValues { columns, rows } = bind_insert_values(
+        alloc, insert, columns, params, session,
+    )?;
+    let rows = list_rows(alloc, rows)?;
+    Ok(InsertAsk { columns, rows })
 }

@@ -9,6 +9,6 @@ returns-clause-target c tree h is txs catalogue =
       tables = has.tables;
       way = has.way;
       table = has.is;
-      path = c.in_ok-path.ensures h txs catalogue;
+      path = rw c.from_vec.ensures (c.in_ok-path.ensures h txs catalogue);
       is_named = refl;
     }

@@ -7,5 +7,5 @@ use Rattle.sql_binder.proofs.inserts.bind_rows.Given as goal
 abbrev pub invariant-loop-row : goal.invariant-loop-row
 invariant-loop-row l = record {
   faults : row_constants l.names l.kinds (map trees (drop l.row-index l.rows)) ≡ row_constants l.names l.kinds (map trees l.rows);
-  made : l.made ++ all_values l.names l.kinds (map trees (drop l.row-index l.rows)) ≡ all_values l.names l.kinds (map trees l.rows);
+  made : l.made.items ++ all_values l.names l.kinds (map trees (drop l.row-index l.rows)) ≡ all_values l.names l.kinds (map trees l.rows);
 }

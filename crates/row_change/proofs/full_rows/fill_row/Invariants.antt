@@ -1,6 +1,6 @@
 use Rattle.std.proofs.Common.{◌≡◌}
 use Rattle.row_change.specs.FullRows as full_rows
-use Rattle.row_change.proofs.full_rows.full_row.Given as goal
+use Rattle.row_change.proofs.full_rows.fill_row.Given as goal
 
 -- a row of all columns so far
 abbrev pub invariant-loop-column : goal.invariant-loop-column
