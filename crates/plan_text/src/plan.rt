@@ -206,8 +206,11 @@ fn push_rows(
         return push_never(alloc, of_given(counts), depth, out);
     }
     match &plan.pairs {
-        None => push_items(alloc, items, counts, &plan.items, depth, out),
-        Some(pairs) => push_onto(alloc, items, counts, pairs, plan.unpaired(), depth, out),
+        None => push_items(alloc, items, counts, plan.items.as_slice(), depth, out),
+        Some(pairs) => {
+            let behind = plan.unpaired();
+            push_onto(alloc, items, counts, pairs.as_slice(), behind, depth, out)
+        }
     }
 }
 
@@ -281,7 +284,8 @@ fn push_ordered(
     requires { depth ≤ 97 }
     ensures { OnOk result (out.new.items ≡ out.old.items ++ plans.ordered_append items.now (lent counts.entry) keys.now (planned plan.now).items (map (λ p. p.now) parts.now) depth) }
 {
-    if plan.items.is_empty() {
+    let planned = plan.items.as_slice();
+    if planned.is_empty() {
         return Ok(());
     }
     push_node(alloc, depth, b"Ordered Append", of_given(counts), &[], out)?;
@@ -290,7 +294,7 @@ fn push_ordered(
         items,
         counts,
         keys,
-        &plan.items[0],
+        &planned[0],
         parts,
         depth + 1,
         out,

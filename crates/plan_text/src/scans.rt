@@ -47,7 +47,7 @@ fn texts(
     ensures { IfOk result (λ ts. ts.items ≡ several items.now (plans.conjuncts_told (planned_item item.now) detail)) }
 {
     let mut texts = Vec::new(alloc);
-    for cond in &item.conjuncts {
+    for cond in item.conjuncts.as_slice() {
         if tells(item, detail, cond) {
             push_conjuncts(alloc, items, cond, &mut texts)?;
         }
@@ -187,31 +187,14 @@ pub(crate) fn push_item(
     let number = item.number;
     let asked = filters(alloc, items, item)?;
     let is_pruned_again = item.is_asked_at_start || item.is_asked_again;
-    if item.leaves.len() == 1 && !is_pruned_again {
-        return push_scans(
-            alloc,
-            items,
-            counts,
-            number,
-            &asked,
-            &item.leaves,
-            depth,
-            out,
-        );
+    let leaves = item.leaves.as_slice();
+    if leaves.len() == 1 && !is_pruned_again {
+        return push_scans(alloc, items, counts, number, &asked, leaves, depth, out);
     }
     let removed = removed_detail(alloc, item.removed)?;
     let count = of_append(counts, item);
     push_node(alloc, depth, b"Append", count, &removed, out)?;
-    push_scans(
-        alloc,
-        items,
-        counts,
-        number,
-        &asked,
-        &item.leaves,
-        depth + 1,
-        out,
-    )
+    push_scans(alloc, items, counts, number, &asked, leaves, depth + 1, out)
 }
 
 // The scans of a part of an item.

@@ -153,10 +153,10 @@ level_test keeps (LeafTable node leaf) = λ b. false
 level_test keeps (LevelTable node level bounds kids) = keeps level bounds
 
 abbrev pub leaves_in : KeptParts → List Leaf
-leaves_in k = k.leaves.items
+leaves_in k = k.leaves
 
 abbrev pub tables_in : KeptParts → List TableNo
-tables_in k = k.tables.items
+tables_in k = k.tables
 
 abbrev pub leaves_at : Keeps → TableTree → ℕ → List Leaf
 leaves_at keeps tree n = kept_leaves keeps (in_partition n tree)
@@ -212,8 +212,8 @@ module _ (keeps : Keeps) (t : Tree) (level : Level) (bounds : List Bound) (child
 
     -- one part more
     pub parting_step : (b : Bool) (made : KeptParts) (now : List KeptParts) → bit set k ≡ b
-        → made.leaves.items ≡ (if b then leaves_below keeps (seen child) else [])
-        → made.tables.items ≡ (if b then led (leaves_below keeps (seen child)) (node_of (seen child)).table (kept_tables keeps (seen child)) else [])
+        → made.leaves ≡ (if b then leaves_below keeps (seen child) else [])
+        → made.tables ≡ (if b then led (leaves_below keeps (seen child)) (node_of (seen child)).table (kept_tables keeps (seen child)) else [])
         → now ≡ parts ++ made ∷ [] → Parting keeps t level bounds items set (k + 1) now
     parting_step b made now told ls ts put =
         let below : k < length bounds = let same = g.same in omega (arith, same, lt) in
@@ -263,8 +263,8 @@ module _ (keeps : Keeps) (t : Tree) (items : List Tree) (set : List ℕ) (k : �
   part_prunes child lt at = parting_prunes keeps t g.level g.bounds g.children items set g.shape g.are k child parts lt at g.going
 
   pub part_made : (child : Tree) → k < length items → child ≡ get_or items k child → (b : Bool) (made : KeptParts) (now : List KeptParts) → b ≡ bit set k
-      → made.leaves.items ≡ (if b then leaves_below keeps (seen child) else [])
-      → made.tables.items ≡ (if b then led (leaves_below keeps (seen child)) (node_of (seen child)).table (kept_tables keeps (seen child)) else [])
+      → made.leaves ≡ (if b then leaves_below keeps (seen child) else [])
+      → made.tables ≡ (if b then led (leaves_below keeps (seen child)) (node_of (seen child)).table (kept_tables keeps (seen child)) else [])
       → now ≡ parts ++ made ∷ [] → PartingOf keeps t items set (k + 1) now
   part_made child lt at b made now told ls ts put = record {
     level = g.level;

@@ -91,7 +91,7 @@ fn is_nested(join: JoinKind) -> bool
 fn is_settled(item: &PlanItem<'_>) -> bool
     ensures { result ≡ ordered.is_settled (planned_item item.now) }
 {
-    is_nested(item.join) && !item.is_asked_again && !has_parameters(&item.conjuncts)
+    is_nested(item.join) && !item.is_asked_again && !has_parameters(item.conjuncts.as_slice())
 }
 
 fn follows(ask: &SelectAsk, item: &PlanItem<'_>, level: &Level) -> bool
@@ -194,12 +194,13 @@ fn parts_in<'p, 't>(
             if !follows(ask, item, level) {
                 return Ok(Vec::new(alloc));
             }
+            let leaves = item.leaves.as_slice();
             let mut parts = Vec::new(alloc);
-            let count = push_parts(set, children.as_slice(), &item.leaves, &mut parts)?;
+            let count = push_parts(set, children.as_slice(), leaves, &mut parts)?;
             if parts.len() < 2 {
                 return Ok(Vec::new(alloc));
             }
-            if count != item.leaves.len() {
+            if count != leaves.len() {
                 return Ok(Vec::new(alloc));
             }
             Ok(parts)
@@ -217,10 +218,11 @@ impl<'t> Plan<'t> {
     ) -> Result<Vec<&'p [NamedLeaf<'t>]>, NoMemory>
         ensures { IfOk result (λ ps. map (λ p. p.now) ps.items ≡ ordered.sorted_parts (select_meant ask.now) (planned self.now)) }
     {
-        if self.pairs.is_some() || self.items.len() != 1 {
+        let items = self.items.as_slice();
+        if self.pairs.is_some() || items.len() != 1 {
             return Ok(Vec::new(alloc));
         }
-        let item = &self.items[0];
+        let item = &items[0];
         if item.part.is_some() {
             return Ok(Vec::new(alloc));
         }

@@ -17,7 +17,7 @@ use crate::condition::copy_cond;
 use bound_forms::{Bound, KeyColumns, Level};
 use cond_logic::{Cond, NamedLeaf};
 use part_bounds::{BoundSet, make_set};
-use pg_values::{NoMemory, Steps, Strategy, TableNo, ValueKey};
+use pg_values::{ListOf, NoMemory, Steps, Strategy, TableNo, ValueKey};
 use prune_steps::{KeptSet, make_steps, run_steps};
 use row_router::{Shape, Tree};
 use std::alloc::Global;
@@ -27,8 +27,18 @@ use std::sync::ledger::{Blank, Ledger};
 /// The kept leaves of a tree, and the tables under it that lead to them.
 #[derive(Debug, Drop)]
 pub struct KeptParts<'t> {
-    pub tables: Vec<TableNo>,
-    pub leaves: Vec<NamedLeaf<'t>>,
+    pub tables: ListOf<TableNo>,
+    pub leaves: ListOf<NamedLeaf<'t>>,
+}
+
+fn kept_parts<'t>(tables: Vec<TableNo>, leaves: Vec<NamedLeaf<'t>>) -> KeptParts<'t>
+    ensures tables { result.tables ≡ tables.items }
+    ensures leaves { result.leaves ≡ leaves.entry.items }
+{
+    KeptParts {
+        tables: ListOf::from_vec(tables),
+        leaves: ListOf::from_vec(leaves),
+    }
 }
 
 // The children of a level that the condition keeps.
@@ -116,6 +126,7 @@ fn push_below<'t>(
 }
 
 // The same for a table that is kept; it goes before those below it, where it leads to a leaf.
+#[inline(always)]
 #[cycle(pruning)]
 fn push_led<'t>(
     alloc: Global,
@@ -174,17 +185,17 @@ pub fn prune_item<'t>(
     tree: &'t Tree,
 ) -> Result<KeptParts<'t>, NoMemory>
     requires { CanPrune (seen tree.now) }
-    ensures tables { IfOk result (λ k. k.tables.items ≡ kept_spec.kept_tables (keeps_for prunes item (map cond_tree conds.now)) (seen tree.now)) }
-    ensures leaves { IfOk result (λ k. k.leaves.items ≡ kept_spec.kept_leaves (keeps_for prunes item (map cond_tree conds.now)) (seen tree.now)) }
+    ensures tables { IfOk result (λ k. k.tables ≡ kept_spec.kept_tables (keeps_for prunes item (map cond_tree conds.now)) (seen tree.now)) }
+    ensures leaves { IfOk result (λ k. k.leaves ≡ kept_spec.kept_leaves (keeps_for prunes item (map cond_tree conds.now)) (seen tree.now)) }
 {
     let mut tables = Vec::new(alloc);
     let mut leaves = Vec::new(alloc);
     let is_plain = matches!(&tree.shape, Shape::Leaf(_));
     if is_plain && !is_plain_kept(alloc, prunes, item, conds)? {
-        return Ok(KeptParts { tables, leaves });
+        return Ok(kept_parts(tables, leaves));
     }
     push_below(alloc, prunes, item, conds, tree, &mut tables, &mut leaves)?;
-    Ok(KeptParts { tables, leaves })
+    Ok(kept_parts(tables, leaves))
 }
 
 // Those of a partition, where it is kept.
@@ -197,17 +208,17 @@ fn prune_child<'t>(
     child: &'t Tree,
 ) -> Result<KeptParts<'t>, NoMemory>
     requires { CanPrune (seen child.now) }
-    ensures tables { IfOk result (λ k. k.tables.items ≡ (if is_kept then led (leaves_below (keeps_for prunes item (map cond_tree conds.now)) (seen child.now)) (node_of (seen child.now)).table
+    ensures tables { IfOk result (λ k. k.tables ≡ (if is_kept then led (leaves_below (keeps_for prunes item (map cond_tree conds.now)) (seen child.now)) (node_of (seen child.now)).table
         (kept_spec.kept_tables (keeps_for prunes item (map cond_tree conds.now)) (seen child.now)) else [])) }
-    ensures leaves { IfOk result (λ k. k.leaves.items ≡ (if is_kept then leaves_below (keeps_for prunes item (map cond_tree conds.now)) (seen child.now) else [])) }
+    ensures leaves { IfOk result (λ k. k.leaves ≡ (if is_kept then leaves_below (keeps_for prunes item (map cond_tree conds.now)) (seen child.now) else [])) }
 {
     let mut tables = Vec::new(alloc);
     let mut leaves = Vec::new(alloc);
     if !is_kept {
-        return Ok(KeptParts { tables, leaves });
+        return Ok(kept_parts(tables, leaves));
     }
     push_led(alloc, prunes, item, conds, child, &mut tables, &mut leaves)?;
-    Ok(KeptParts { tables, leaves })
+    Ok(kept_parts(tables, leaves))
 }
 
 // Those of one partition alone.
@@ -220,17 +231,14 @@ fn prune_partition<'t>(
     part: usize,
 ) -> Result<KeptParts<'t>, NoMemory>
     requires { CanPrune (in_partition part (seen tree.now)) }
-    ensures tables { IfOk result (λ k. k.tables.items ≡ kept_spec.kept_tables (keeps_for prunes item (map cond_tree conds.now)) (in_partition part (seen tree.now))) }
-    ensures leaves { IfOk result (λ k. k.leaves.items ≡ kept_spec.kept_leaves (keeps_for prunes item (map cond_tree conds.now)) (in_partition part (seen tree.now))) }
+    ensures tables { IfOk result (λ k. k.tables ≡ kept_spec.kept_tables (keeps_for prunes item (map cond_tree conds.now)) (in_partition part (seen tree.now))) }
+    ensures leaves { IfOk result (λ k. k.leaves ≡ kept_spec.kept_leaves (keeps_for prunes item (map cond_tree conds.now)) (in_partition part (seen tree.now))) }
 {
     match &tree.shape {
         Shape::Leaf(_) => prune_item(alloc, prunes, item, conds, tree),
         Shape::Level(level, set, children) => {
             if part >= children.len() {
-                return Ok(KeptParts {
-                    tables: Vec::new(alloc),
-                    leaves: Vec::new(alloc),
-                });
+                return Ok(kept_parts(Vec::new(alloc), Vec::new(alloc)));
             }
             let kept = kept_of(alloc, prunes, item, conds, level, set)?;
             prune_child(
@@ -254,8 +262,8 @@ pub(crate) fn prune_partitions<'t>(
     tree: &'t Tree,
 ) -> Result<Vec<KeptParts<'t>>, NoMemory>
     requires { CanPrune (seen tree.now) }
-    ensures tables { IfOk result (λ ks. map (λ k. k.tables.items) ks.items ≡ map (λ n. kept_spec.kept_tables (keeps_for prunes item (map cond_tree conds.now)) (in_partition n (seen tree.now))) (partitions (seen tree.now))) }
-    ensures leaves { IfOk result (λ ks. map (λ k. k.leaves.items) ks.items ≡ map (λ n. kept_spec.kept_leaves (keeps_for prunes item (map cond_tree conds.now)) (in_partition n (seen tree.now))) (partitions (seen tree.now))) }
+    ensures tables { IfOk result (λ ks. map (λ k. k.tables) ks.items ≡ map (λ n. kept_spec.kept_tables (keeps_for prunes item (map cond_tree conds.now)) (in_partition n (seen tree.now))) (partitions (seen tree.now))) }
+    ensures leaves { IfOk result (λ ks. map (λ k. k.leaves) ks.items ≡ map (λ n. kept_spec.kept_leaves (keeps_for prunes item (map cond_tree conds.now)) (in_partition n (seen tree.now))) (partitions (seen tree.now))) }
 {
     match &tree.shape {
         Shape::Leaf(_) => Ok(Vec::new(alloc)),
@@ -280,8 +288,8 @@ pub(crate) fn prune_part<'t>(
     part: Option<usize>,
 ) -> Result<KeptParts<'t>, NoMemory>
     requires { CanPrune (in_part part (seen tree.now)) }
-    ensures tables { IfOk result (λ k. k.tables.items ≡ kept_spec.kept_tables (keeps_for prunes item (map cond_tree conds.now)) (in_part part (seen tree.now))) }
-    ensures leaves { IfOk result (λ k. k.leaves.items ≡ kept_spec.kept_leaves (keeps_for prunes item (map cond_tree conds.now)) (in_part part (seen tree.now))) }
+    ensures tables { IfOk result (λ k. k.tables ≡ kept_spec.kept_tables (keeps_for prunes item (map cond_tree conds.now)) (in_part part (seen tree.now))) }
+    ensures leaves { IfOk result (λ k. k.leaves ≡ kept_spec.kept_leaves (keeps_for prunes item (map cond_tree conds.now)) (in_part part (seen tree.now))) }
 {
     match part {
         None => prune_item(alloc, prunes, item, conds, tree),
@@ -297,8 +305,8 @@ pub fn prune_tree<'t>(
     tree: &'t Tree,
 ) -> Result<KeptParts<'t>, NoMemory>
     requires { CanPrune (seen tree.now) }
-    ensures tables { IfOk result (λ k. k.tables.items ≡ kept_spec.kept_tables (keeps_by prunes (cond_tree cond.now)) (seen tree.now)) }
-    ensures leaves { IfOk result (λ k. k.leaves.items ≡ kept_spec.kept_leaves (keeps_by prunes (cond_tree cond.now)) (seen tree.now)) }
+    ensures tables { IfOk result (λ k. k.tables ≡ kept_spec.kept_tables (keeps_by prunes (cond_tree cond.now)) (seen tree.now)) }
+    ensures leaves { IfOk result (λ k. k.leaves ≡ kept_spec.kept_leaves (keeps_by prunes (cond_tree cond.now)) (seen tree.now)) }
 {
     let mut conds = Vec::new(alloc);
     conds.push(copy_cond(alloc, cond)?)?;

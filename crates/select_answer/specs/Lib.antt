@@ -6,5 +6,6 @@ pub mod HashTables
 pub mod Keys
 pub mod Laws
 pub mod OpenItems
+pub mod RowKeys
 pub mod Rows
 pub mod Tuples

@@ -6,7 +6,7 @@ ghost use Rattle.select_answer.specs.Keys as keys;
 ghost use Rattle.select_answer.specs.Keys.{before_all, directed, keys_order, null_rank, row_less, value_order};
 ghost use Rattle.part_bounds.specs.Sorted.{sorted};
 
-use crate::KeyedRow;
+use crate::{KeyedRow, RowKeys};
 use cond_logic::SortKey;
 use pg_values::{NoMemory, Row, Value, cmp_any};
 use std::alloc::Global;
@@ -41,16 +41,24 @@ fn cmp_directed(descending: bool, a: &Value, b: &Value) -> Ordering
     }
 }
 
-// The order of two values of a key.
+// The order of two values of a key, whatever they are.
+#[inline(never)]
+fn cmp_any_key(key: &SortKey, a: &Value, b: &Value) -> Ordering
+    ensures { result ≡ value_order key.now a.now b.now }
+{
+    rank_of_null(key.nulls_first, a)
+        .cmp(&rank_of_null(key.nulls_first, b))
+        .then(cmp_directed(key.descending, a, b))
+}
+
+// The order of two values of a key. Two integers are compared without a look at nulls and kinds.
 #[inline]
 fn cmp_key(key: &SortKey, a: &Value, b: &Value) -> Ordering
     ensures { result ≡ value_order key.now a.now b.now }
 {
     match (a, b) {
         (Value::Int4(m), Value::Int4(n)) => { if key.descending { n.cmp(m) } else { m.cmp(n) } }
-        _ => rank_of_null(key.nulls_first, a)
-            .cmp(&rank_of_null(key.nulls_first, b))
-            .then(cmp_directed(key.descending, a, b)),
+        _ => cmp_any_key(key, a, b),
     }
 }
 
@@ -68,25 +76,18 @@ pub(crate) fn value_at<'a>(row: &'a Row, place: usize, none: &'a Value) -> &'a V
 
 // The order of two rows by the values of one key.
 #[inline]
-fn cmp_at(key: &SortKey, place: usize, a: &Row, b: &Row) -> Ordering
+fn cmp_at(key: &SortKey, place: usize, a: &RowKeys, b: &RowKeys) -> Ordering
     ensures { result ≡ value_order key.now (slice_index_or a.now place Null) (slice_index_or b.now place Null) }
 {
     let none = Value::Null;
-    cmp_key(
-        key,
-        value_at(&*a, place, &none),
-        value_at(&*b, place, &none),
-    )
+    cmp_key(key, a.value_at(place, &none), b.value_at(place, &none))
 }
 
-// The order of two rows by the values of all keys. Where there is one, as most often, it is asked without a walk.
-#[inline]
-fn cmp_keys(order: &[SortKey], a: &Row, b: &Row) -> Ordering
+// The order of two rows by the values of all keys, one after the other.
+#[inline(never)]
+fn cmp_each(order: &[SortKey], a: &RowKeys, b: &RowKeys) -> Ordering
     ensures { result ≡ keys_order 0 order.now a.now b.now }
 {
-    if order.len() == 1 {
-        return cmp_at(&order[0], 0, a, b);
-    }
     for (place, key) in order.iter().enumerate() {
         let found = cmp_at(key, place, a, b);
         if found != Ordering::Equal {
@@ -94,6 +95,19 @@ fn cmp_keys(order: &[SortKey], a: &Row, b: &Row) -> Ordering
         }
     }
     Ordering::Equal
+}
+
+// The order of two rows by the values of all keys. Where there is one, as most often, it is asked without a walk.
+#[inline]
+fn cmp_keys(order: &[SortKey], a: &RowKeys, b: &RowKeys) -> Ordering
+    ensures { result ≡ keys_order 0 order.now a.now b.now }
+{
+    if order.len() == 1 {
+        if let (Some(own), Some(other)) = (a.only(), b.only()) {
+            return cmp_key(&order[0], own, other);
+        }
+    }
+    cmp_each(order, a, b)
 }
 
 // Sorts the rows by the keys; rows that tie stay in order.

@@ -30,6 +30,7 @@ mod opening;
 mod pairs;
 mod reading;
 mod row;
+mod row_keys;
 
 pub use answering::run_select;
 pub use keyed_row::KeyedRow;
@@ -37,6 +38,7 @@ pub use laws::{
     happenings_are_of_marks, marks_are_of_joins, one_item_is_read_once, pruned_is_plain,
     reads_are_plain, rows_are_of_all_tuples,
 };
+pub use row_keys::RowKeys;
 
 /// How many tuples an answer has at most, before it is cut.
 pub const TUPLE_LIMIT: usize = 1_000_000;

@@ -10,12 +10,12 @@ use Rattle.plan_tree.proofs.pruning.prune_partition.Goals as goal
 pub returns-then-part-len-clause-tables : goal.returns-then-part-len-clause-tables
 returns-then-part-len-clause-tables c =
     let past : length (items_of c.in-Level.children) ≤ c.args.part = omega arith in
-    c.new.ensures.items ∙ sym (no_part_tables c.args.tree.now c.in-Level.level c.in-Level.set c.in-Level.children c.in-Level.is c.args.part (keeps_for c.args.prunes c.args.item (map cond_tree c.args.conds.now)) past)
+    c.kept_parts.ensures.tables ∙ c.new.ensures.items ∙ sym (no_part_tables c.args.tree.now c.in-Level.level c.in-Level.set c.in-Level.children c.in-Level.is c.args.part (keeps_for c.args.prunes c.args.item (map cond_tree c.args.conds.now)) past)
 
 pub returns-then-part-len-clause-leaves : goal.returns-then-part-len-clause-leaves
 returns-then-part-len-clause-leaves c =
     let past : length (items_of c.in-Level.children) ≤ c.args.part = omega arith in
-    c.new-then-part-len.ensures.items ∙ sym (no_part_leaves c.args.tree.now c.in-Level.level c.in-Level.set c.in-Level.children c.in-Level.is c.args.part (keeps_for c.args.prunes c.args.item (map cond_tree c.args.conds.now)) past)
+    c.kept_parts.ensures.leaves ∙ c.new-then-part-len.ensures.items ∙ sym (no_part_leaves c.args.tree.now c.in-Level.level c.in-Level.set c.in-Level.children c.in-Level.is c.args.part (keeps_for c.args.prunes c.args.item (map cond_tree c.args.conds.now)) past)
 
 pub keeps-requires : goal.keeps-requires
 keeps-requires c =
