@@ -54,7 +54,8 @@ use Rattle.ddl_steps.proofs.Firsts.{both_told, none_told}
 use Rattle.ddl_steps.proofs.Sets.{are_those}
 use Rattle.alter_table.specs.AskedOfDetached.{MayBeMarked}
 use Rattle.alter_table.specs.Concurrent.{default_faults, pending_faults, none_beside, markable, marked, rest_of, place_marked}
-use Rattle.alter_table.specs.Detached.{name_at, is_table}
+use Rattle.alter_table.specs.Detached.{is_table}
+use Rattle.alter_table.specs.Places.{name_at}
 use Rattle.alter_table.proofs.LeftPlaces.{MayChange, Over, over_is, over_present, over_guarded, over_between}
 use Rattle.alter_table.proofs.Refusing.{none_against, is_parent}
 

@@ -40,7 +40,8 @@ use Rattle.ddl_steps.proofs.Below.{found_in, entry_suits, here_of, same_number}
 use Rattle.ddl_steps.proofs.Firsts.{both_told, none_told}
 use Rattle.alter_table.specs.AskedOfDetached.{IsPartition, IsPendingPart}
 use Rattle.alter_table.specs.Concurrent.{endable, is_by, is_marked_still}
-use Rattle.alter_table.specs.Detached.{name_at, is_table}
+use Rattle.alter_table.specs.Detached.{is_table}
+use Rattle.alter_table.specs.Places.{name_at}
 use Rattle.alter_table.specs.Finalized.{finalizable}
 use Rattle.alter_table.proofs.Refusing.{none_against}
 

@@ -10,7 +10,8 @@ use Rattle.part_ddl.specs.Placing.{level_at}
 use Rattle.ddl_steps.specs.Refused.{unless_faults}
 use Rattle.ddl_steps.specs.Families.{parent_in}
 use Rattle.ddl_steps.proofs.Firsts.{both_told, none_told}
-use Rattle.alter_table.specs.Detached.{name_at, is_table, detachable}
+use Rattle.alter_table.specs.Detached.{is_table, detachable}
+use Rattle.alter_table.specs.Places.{name_at}
 use Rattle.ddl_steps.proofs.Below.{same_number}
 
 pub none_against : (b : Bool) (f : Fault) → unless b f ≡ [] → b ≡ true

@@ -36,7 +36,8 @@ use Rattle.statement_steps.specs.Steps.{follow, going_on}
 use Rattle.statement_steps.specs.Owned.{own, stamp}
 use Rattle.ddl_steps.specs.Refused.{next_answer, unless_faults}
 use Rattle.ddl_steps.specs.Families.{parent_in}
-use Rattle.alter_table.specs.Detached.{name_at, is_table}
+use Rattle.alter_table.specs.Detached.{is_table}
+use Rattle.alter_table.specs.Places.{name_at}
 use Rattle.alter_table.specs.Kept.{check_kept, new_check}
 
 -- ---- the refusals of the first stage

@@ -20,6 +20,7 @@ use Rattle.statement_steps.specs.Steps.{follow}
 use Rattle.statement_steps.specs.Owned.{stamp}
 use Rattle.ddl_steps.specs.Refused.{next_answer, unless_faults}
 use Rattle.ddl_steps.specs.Families.{parent_in}
+use Rattle.alter_table.specs.Places.{name_at}
 
 -- ---- the default partition beside it
 
@@ -31,9 +32,6 @@ abbrev pub default_locked : List (List ℕ) → (session parent : ℕ) → Histo
 default_locked names s p h = locked_or_none names s (default_of h s p) h
 
 -- ---- the refusals
-
-abbrev pub name_at : History → (table : ℕ) → List ℕ
-name_at h t = (made_at h t).name
 
 abbrev pub is_table : Option TableNo → (table : ℕ) → Bool
 is_table None t = false

@@ -17,7 +17,8 @@ use Rattle.statement_steps.specs.declared.caller.Caller.{Caller}
 use Rattle.statement_steps.specs.Asks.{named, held_at, waited}
 use Rattle.statement_steps.specs.Steps.{follow}
 use Rattle.ddl_steps.specs.Refused.{next_answer, unless_faults}
-use Rattle.alter_table.specs.Detached.{name_at, is_table}
+use Rattle.alter_table.specs.Detached.{is_table}
+use Rattle.alter_table.specs.Places.{name_at}
 use Rattle.alter_table.specs.Concurrent.{partition_left}
 
 -- ---- the refusals

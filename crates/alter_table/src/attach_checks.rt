@@ -27,7 +27,7 @@ use pg_values::{Refusal, TableNo, Which};
 use refusals::{already_a_partition, is_above, too_many};
 use row_router::{PathPart, Tree, height_up_to};
 use sql_ast::BoundText;
-use statement_steps::{Caller, Stop};
+use statement_steps::{Attempt, Stop};
 use std::alloc::Global;
 use stores::{Stores, trees_are_together};
 use table_binder::bind_bound;
@@ -116,9 +116,8 @@ fn place_of(
 
 /// A part: the bound of the table below the parent.
 pub(crate) fn place_found(
-    alloc: Global,
+    attempt: &Attempt<'_>,
     stores: &Stores,
-    caller: Caller,
     parent: TableNo,
     path: &[PathPart],
     table: TableNo,
@@ -126,17 +125,18 @@ pub(crate) fn place_found(
     tables: &[TableNo],
     bound: &BoundText,
 ) -> Result<Bound, Stop>
-    requires may { MayAttempt stores.now caller }
+    requires may { MayAttempt stores.now attempt.now.caller }
     requires parent { parent.number < length stores.now.catalog.tables }
     requires table { table.number < length stores.now.catalog.tables }
-    requires path { IsPathOf stores.now caller.session parent.number path.now }
-    requires own { below.IsTreeOf stores.now.txs stores.now.catalog caller.session table.number (seen own.now) }
-    requires tables { AreFrom stores.now caller.session table.number tables.now }
-    ensures step { IsStep (λ b. b) result stores.now stores.now caller caller.cmd (attached.place_found caller.session parent.number table.number (bound_tree bound.now)) }
-    ensures place { IfOk result (λ b. HasPlace stores.now caller.session parent.number table.number b) }
+    requires path { IsPathOf stores.now attempt.now.caller.session parent.number path.now }
+    requires own { below.IsTreeOf stores.now.txs stores.now.catalog attempt.now.caller.session table.number (seen own.now) }
+    requires tables { AreFrom stores.now attempt.now.caller.session table.number tables.now }
+    ensures step { IsStep (λ b. b) result stores.now stores.now attempt.now.caller attempt.now.caller.cmd (attached.place_found attempt.now.caller.session parent.number table.number (bound_tree bound.now)) }
+    ensures place { IfOk result (λ b. HasPlace stores.now attempt.now.caller.session parent.number table.number b) }
 {
+    let alloc = attempt.alloc;
     trees_are_together();
-    let session = caller.session;
+    let session = attempt.caller.session;
     let bound = place_of(
         alloc, stores, session, parent, path, table, own, tables, bound,
     )?;

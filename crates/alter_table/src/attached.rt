@@ -30,8 +30,7 @@ use pg_values::{LockMode, Refusal, SessionSet, TableNo};
 use row_router::{PathPart, Tree};
 use soundness::{legal_keeps_all, sessions_have_siblings};
 use sql_ast::BoundText;
-use statement_steps::{Caller, SessionNames, Stop, hold_if_repeatable, lock_named, lock_tables};
-use std::alloc::Global;
+use statement_steps::{Attempt, Caller, Stop, hold_if_repeatable, lock_named, lock_tables};
 use stores::{Stores, trees_are_together};
 
 // The last part: the table becomes a partition.
@@ -66,59 +65,58 @@ fn add_entry(
 
 // The rows of the table are judged. Where a CHECK says what would be asked of them they are not looked at.
 fn judge_own(
-    alloc: Global,
+    attempt: &Attempt<'_>,
     stores: &Stores,
-    caller: Caller,
     parent: TableNo,
     tree: &Tree,
     path: &[PathPart],
     table: TableNo,
     bound: &Bound,
 ) -> Result<SessionSet, Refusal>
-    requires may { MayAttempt stores.now caller }
+    requires may { MayAttempt stores.now attempt.now.caller }
     requires parent { parent.number < length stores.now.catalog.tables }
     requires table { table.number < length stores.now.catalog.tables }
-    requires tree { IsTreeOf stores.now.txs stores.now.catalog caller.session parent.number (seen tree.now) }
-    requires path { IsPathOf stores.now caller.session parent.number path.now }
-    requires place { HasPlace stores.now caller.session parent.number table.number bound.now }
-    ensures answer { (h : History) → IsJudgedIn stores.now caller.session table.number h → IsAnswer result (judged h caller.session (place_scan h caller.session parent.number table.number bound.now ∷ [])) }
-    ensures all { IfOk result (λ others. (h : History) → IsJudgedIn stores.now caller.session table.number h → (r : ℕ) → has others r ≡ watches h caller.session (place_scan h caller.session parent.number table.number bound.now ∷ []) r) }
+    requires tree { IsTreeOf stores.now.txs stores.now.catalog attempt.now.caller.session parent.number (seen tree.now) }
+    requires path { IsPathOf stores.now attempt.now.caller.session parent.number path.now }
+    requires place { HasPlace stores.now attempt.now.caller.session parent.number table.number bound.now }
+    ensures answer { (h : History) → IsJudgedIn stores.now attempt.now.caller.session table.number h → IsAnswer result (judged h attempt.now.caller.session (place_scan h attempt.now.caller.session parent.number table.number bound.now ∷ [])) }
+    ensures all { IfOk result (λ others. (h : History) → IsJudgedIn stores.now attempt.now.caller.session table.number h → (r : ℕ) → has others r ≡ watches h attempt.now.caller.session (place_scan h attempt.now.caller.session parent.number table.number bound.now ∷ []) r) }
 {
+    let alloc = attempt.alloc;
     skipped_is_clean();
     trees_are_together();
     let Stores { txs, catalog, .. } = stores;
-    let session = caller.session;
+    let session = attempt.caller.session;
     let known = is_skipped(alloc, catalog, txs, session, parent, path, table, bound)?;
     if known {
         Ok(SessionSet::empty())
     } else {
-        judge_table(alloc, stores, caller, parent, tree, path, bound, table)
+        judge_table(attempt, stores, parent, tree, path, bound, table)
     }
 }
 
 // The rows of the table and those of the default partition are judged.
 fn judge_rows(
-    alloc: Global,
+    attempt: &Attempt<'_>,
     stores: &Stores,
-    caller: Caller,
     parent: TableNo,
     tree: &Tree,
     path: &[PathPart],
     table: TableNo,
     bound: &Bound,
 ) -> Result<SessionSet, Refusal>
-    requires may { MayAttempt stores.now caller }
+    requires may { MayAttempt stores.now attempt.now.caller }
     requires parent { parent.number < length stores.now.catalog.tables }
     requires table { table.number < length stores.now.catalog.tables }
-    requires tree { IsTreeOf stores.now.txs stores.now.catalog caller.session parent.number (seen tree.now) }
-    requires path { IsPathOf stores.now caller.session parent.number path.now }
-    requires place { HasPlace stores.now caller.session parent.number table.number bound.now }
-    ensures answer { (h : History) → IsJudgedIn stores.now caller.session table.number h → IsAnswer result (judged h caller.session (attached.scans caller.session parent.number table.number bound.now h)) }
-    ensures all { IfOk result (λ others. (h : History) → IsJudgedIn stores.now caller.session table.number h → (r : ℕ) → has others r ≡ watches h caller.session (attached.scans caller.session parent.number table.number bound.now h) r) }
+    requires tree { IsTreeOf stores.now.txs stores.now.catalog attempt.now.caller.session parent.number (seen tree.now) }
+    requires path { IsPathOf stores.now attempt.now.caller.session parent.number path.now }
+    requires place { HasPlace stores.now attempt.now.caller.session parent.number table.number bound.now }
+    ensures answer { (h : History) → IsJudgedIn stores.now attempt.now.caller.session table.number h → IsAnswer result (judged h attempt.now.caller.session (attached.scans attempt.now.caller.session parent.number table.number bound.now h)) }
+    ensures all { IfOk result (λ others. (h : History) → IsJudgedIn stores.now attempt.now.caller.session table.number h → (r : ℕ) → has others r ≡ watches h attempt.now.caller.session (attached.scans attempt.now.caller.session parent.number table.number bound.now h) r) }
 {
-    let of_table = judge_own(alloc, stores, caller, parent, tree, path, table, bound)?;
+    let of_table = judge_own(attempt, stores, parent, tree, path, table, bound)?;
     let name = stores.catalog.name_of(table);
-    let of_default = judge_default(alloc, stores, caller, parent, tree, bound, name)?;
+    let of_default = judge_default(attempt, stores, parent, tree, bound, name)?;
     let others = of_table.union(of_default);
     sessions_are_low(others);
     Ok(others)
@@ -126,19 +124,17 @@ fn judge_rows(
 
 // A part: the table and those under it, which are listed, are locked.
 fn lock_family(
-    alloc: Global,
+    attempt: &Attempt<'_>,
     stores: &mut Stores,
-    names: &SessionNames,
-    caller: Caller,
     table: TableNo,
     tables: &[TableNo],
 ) -> Result<(), Stop>
-    requires may { MayAttempt stores.old caller }
+    requires may { MayAttempt stores.old attempt.now.caller }
     requires few { length stores.old.catalog.tables ≤ 4096 }
-    requires known { IsKnownTo stores.old caller.session table.number }
-    requires tables { AreFrom stores.old caller.session table.number tables.now }
-    ensures step { IsStep (λ u. u) result stores.old stores.new caller caller.cmd (attached.family_locked names.now caller.session table.number) }
-    ensures locked { IfOk result (λ u. HasFamilyLocked stores.new caller.session table.number) }
+    requires known { IsKnownTo stores.old attempt.now.caller.session table.number }
+    requires tables { AreFrom stores.old attempt.now.caller.session table.number tables.now }
+    ensures step { IsStep (λ u. u) result stores.old stores.new attempt.now.caller attempt.now.caller.cmd (attached.family_locked attempt.now.names.now attempt.now.caller.session table.number) }
+    ensures locked { IfOk result (λ u. HasFamilyLocked stores.new attempt.now.caller.session table.number) }
     ensures rest { stores.new ≡ record stores.old { locks = stores.new.locks } }
 {
     listed_is_there();
@@ -146,42 +142,38 @@ fn lock_family(
     tree_is_whole();
     legal_keeps_all();
     let mode = LockMode::AccessExclusive;
-    lock_tables(alloc, stores, names, caller, tables, mode)
+    lock_tables(attempt, stores, tables, mode)
 }
 
 // Behind these locks the trees of both tables and the path of the parent are read, once for all that is asked of
 // them. The default partition of the parent is locked; then come the refusals, the rows are judged, and the table
 // becomes a partition.
 fn attach_below(
-    alloc: Global,
+    attempt: &Attempt<'_>,
     stores: &mut Stores,
-    names: &SessionNames,
-    caller: Caller,
     parent: TableNo,
     table: TableNo,
     tables: &[TableNo],
     bound: &BoundText,
 ) -> Result<(), Stop>
-    requires may { MayAttempt stores.old caller }
+    requires may { MayAttempt stores.old attempt.now.caller }
     requires few { length stores.old.catalog.tables ≤ 4096 }
-    requires parent { IsGuardedNamed stores.old caller.session parent.number }
-    requires table { IsLockedNamed stores.old caller.session table.number }
-    requires family { HasFamilyLocked stores.old caller.session table.number }
-    requires tables { AreFrom stores.old caller.session table.number tables.now }
-    ensures { IsStep (λ u. u) result stores.old stores.new caller (caller.cmd + 1) (attached.attached_beside names.now caller parent.number table.number (bound_tree bound.now)) }
+    requires parent { IsGuardedNamed stores.old attempt.now.caller.session parent.number }
+    requires table { IsLockedNamed stores.old attempt.now.caller.session table.number }
+    requires family { HasFamilyLocked stores.old attempt.now.caller.session table.number }
+    requires tables { AreFrom stores.old attempt.now.caller.session table.number tables.now }
+    ensures { IsStep (λ u. u) result stores.old stores.new attempt.now.caller (attempt.now.caller.cmd + 1) (attached.attached_beside attempt.now.names.now attempt.now.caller parent.number table.number (bound_tree bound.now)) }
 {
     trees_are_together();
     let Stores { txs, catalog, .. } = &*stores;
-    let tree = catalog.ddl_tree(alloc, txs, parent, caller.session)?;
-    let path = catalog.path(alloc, txs, parent, caller.session)?;
-    let own = catalog.ddl_tree(alloc, txs, table, caller.session)?;
-    lock_default(alloc, stores, names, caller, parent)?;
-    let bound = place_found(
-        alloc, stores, caller, parent, &path, table, &own, tables, bound,
-    )?;
-    let judged = judge_rows(alloc, stores, caller, parent, &tree, &path, table, &bound);
-    wait_for_snapshots(alloc, stores, names, caller, judged)?;
-    add_entry(stores, caller, parent, table, bound)
+    let tree = catalog.ddl_tree(attempt.alloc, txs, parent, attempt.caller.session)?;
+    let path = catalog.path(attempt.alloc, txs, parent, attempt.caller.session)?;
+    let own = catalog.ddl_tree(attempt.alloc, txs, table, attempt.caller.session)?;
+    lock_default(attempt, stores, parent)?;
+    let bound = place_found(attempt, stores, parent, &path, table, &own, tables, bound)?;
+    let judged = judge_rows(attempt, stores, parent, &tree, &path, table, &bound);
+    wait_for_snapshots(attempt, stores, judged)?;
+    add_entry(stores, attempt.caller, parent, table, bound)
 }
 
 /// ALTER TABLE, ATTACH PARTITION. The parent is found (42P01) and locked in SHARE UPDATE EXCLUSIVE mode, then the
@@ -191,25 +183,24 @@ fn attach_below(
 /// table or of the default partition that does not suit (23514). Where only the open snapshots of other sessions see
 /// such a row it waits until they have gone.
 pub fn attach(
-    alloc: Global,
+    attempt: &Attempt<'_>,
     stores: &mut Stores,
-    names: &SessionNames,
-    caller: Caller,
     parent: &[u8],
     name: &[u8],
     bound: &BoundText,
 ) -> Result<(), Stop>
-    requires may { MayAttempt stores.old caller }
+    requires may { MayAttempt stores.old attempt.now.caller }
     requires few { length stores.old.catalog.tables ≤ 4096 }
-    ensures { IsStep (λ u. u) result stores.old stores.new caller (caller.cmd + 1) (attached.attached names.now caller parent.now name.now (bound_tree bound.now)) }
+    ensures { IsStep (λ u. u) result stores.old stores.new attempt.now.caller (attempt.now.caller.cmd + 1) (attached.attached attempt.now.names.now attempt.now.caller parent.now name.now (bound_tree bound.now)) }
 {
+    let session = attempt.caller.session;
     trees_are_together();
     let guards = LockMode::ShareUpdateExclusive;
     let owns = LockMode::AccessExclusive;
-    hold_if_repeatable(alloc, stores, caller)?;
-    let parent = lock_named(alloc, stores, names, caller, parent, guards)?;
-    let table = lock_named(alloc, stores, names, caller, name, owns)?;
-    let tables = tables_from(alloc, &stores.catalog, &stores.txs, table, caller.session)?;
-    lock_family(alloc, stores, names, caller, table, &tables)?;
-    attach_below(alloc, stores, names, caller, parent, table, &tables, bound)
+    hold_if_repeatable(attempt, stores)?;
+    let parent = lock_named(attempt, stores, parent, guards)?;
+    let table = lock_named(attempt, stores, name, owns)?;
+    let tables = tables_from(attempt.alloc, &stores.catalog, &stores.txs, table, session)?;
+    lock_family(attempt, stores, table, &tables)?;
+    attach_below(attempt, stores, parent, table, &tables, bound)
 }

@@ -14,7 +14,7 @@ use part_catalog::Catalog;
 use part_ddl::parent_level;
 use pg_values::{Refusal, TableNo};
 use refusals::{not_a_partition, partition_is_pending};
-use statement_steps::{Caller, Stop};
+use statement_steps::{Attempt, Stop};
 use std::alloc::Global;
 use stores::Stores;
 use tx_table::TxTable;
@@ -56,19 +56,19 @@ fn check_partition(
 
 /// A part: nothing stands against it.
 pub(crate) fn check(
-    alloc: Global,
+    attempt: &Attempt<'_>,
     stores: &Stores,
-    caller: Caller,
     parent: TableNo,
     table: TableNo,
 ) -> Result<(), Stop>
-    requires may { MayAttempt stores.now caller }
+    requires may { MayAttempt stores.now attempt.now.caller }
     requires parent { parent.number < length stores.now.catalog.tables }
     requires table { table.number < length stores.now.catalog.tables }
-    ensures step { IsStep (λ u. u) result stores.now stores.now caller caller.cmd (detached.checked caller.session parent.number table.number) }
-    ensures partition { IfOk result (λ u. IsPartition stores.now caller.session parent table.number) }
+    ensures step { IsStep (λ u. u) result stores.now stores.now attempt.now.caller attempt.now.caller.cmd (detached.checked attempt.now.caller.session parent.number table.number) }
+    ensures partition { IfOk result (λ u. IsPartition stores.now attempt.now.caller.session parent table.number) }
 {
+    let session = attempt.caller.session;
     let Stores { txs, catalog, .. } = stores;
-    check_partition(alloc, catalog, txs, caller.session, parent, table)?;
+    check_partition(attempt.alloc, catalog, txs, session, parent, table)?;
     Ok(())
 }

@@ -9,32 +9,25 @@ use crate::detach_checks::check;
 use legal_statements::{drop_may_follow, listed_is_there, nobody_else_ends, there_is_known};
 use part_ddl::default_of;
 use pg_values::{LockMode, TableNo};
-use statement_steps::{Caller, SessionNames, Stop, hold_if_repeatable, lock_named, lock_table};
-use std::alloc::Global;
+use statement_steps::{Attempt, Caller, Stop, hold_if_repeatable, lock_named, lock_table};
 use stores::{Stores, trees_are_together};
 
 // A part: the default partition of the parent is locked, where there is one.
-fn lock_default(
-    alloc: Global,
-    stores: &mut Stores,
-    names: &SessionNames,
-    caller: Caller,
-    parent: TableNo,
-) -> Result<(), Stop>
-    requires may { MayAttempt stores.old caller }
+fn lock_default(attempt: &Attempt<'_>, stores: &mut Stores, parent: TableNo) -> Result<(), Stop>
+    requires may { MayAttempt stores.old attempt.now.caller }
     requires few { length stores.old.catalog.tables ≤ 4096 }
     requires known { parent.number < length stores.old.catalog.tables }
-    ensures step { IsStep (λ u. u) result stores.old stores.new caller caller.cmd (detached.default_locked names.now caller.session parent.number) }
+    ensures step { IsStep (λ u. u) result stores.old stores.new attempt.now.caller attempt.now.caller.cmd (detached.default_locked attempt.now.names.now attempt.now.caller.session parent.number) }
     ensures rest { stores.new ≡ record stores.old { locks = stores.new.locks } }
 {
     trees_are_together();
     listed_is_there();
     there_is_known();
-    match default_of(&stores.catalog, &stores.txs, parent, caller.session) {
+    match default_of(&stores.catalog, &stores.txs, parent, attempt.caller.session) {
         None => Ok(()),
         Some(default) => {
             let mode = LockMode::AccessExclusive;
-            lock_table(alloc, stores, names, caller, default, mode)
+            lock_table(attempt, stores, default, mode)
         }
     }
 }
@@ -60,23 +53,21 @@ fn leave_place(stores: &mut Stores, caller: Caller, parent: TableNo, table: Tabl
 /// table, then the default partition beside it. It is refused where the parent is not partitioned (42809),
 /// where the table is not a partition of it (42P01), and where it is the pending one (55000).
 pub fn detach(
-    alloc: Global,
+    attempt: &Attempt<'_>,
     stores: &mut Stores,
-    names: &SessionNames,
-    caller: Caller,
     parent: &[u8],
     name: &[u8],
 ) -> Result<(), Stop>
-    requires may { MayAttempt stores.old caller }
+    requires may { MayAttempt stores.old attempt.now.caller }
     requires few { length stores.old.catalog.tables ≤ 4096 }
-    ensures { IsStep (λ u. u) result stores.old stores.new caller (caller.cmd + 1) (detached.detached names.now caller parent.now name.now) }
+    ensures { IsStep (λ u. u) result stores.old stores.new attempt.now.caller (attempt.now.caller.cmd + 1) (detached.detached attempt.now.names.now attempt.now.caller parent.now name.now) }
 {
     let mode = LockMode::AccessExclusive;
-    hold_if_repeatable(alloc, stores, caller)?;
-    let parent = lock_named(alloc, stores, names, caller, parent, mode)?;
-    let table = lock_named(alloc, stores, names, caller, name, mode)?;
-    lock_default(alloc, stores, names, caller, parent)?;
-    check(alloc, stores, caller, parent, table)?;
-    leave_place(stores, caller, parent, table);
+    hold_if_repeatable(attempt, stores)?;
+    let parent = lock_named(attempt, stores, parent, mode)?;
+    let table = lock_named(attempt, stores, name, mode)?;
+    lock_default(attempt, stores, parent)?;
+    check(attempt, stores, parent, table)?;
+    leave_place(stores, attempt.caller, parent, table);
     Ok(())
 }

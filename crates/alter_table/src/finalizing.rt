@@ -21,7 +21,7 @@ use part_ddl::parent_level;
 use pg_values::{LockMode, Refusal, SessionSet, TableNo};
 use refusals::not_the_pending_partition;
 use soundness::legal_keeps_all;
-use statement_steps::{Caller, SessionNames, Stop, hold_if_repeatable, lock_named, wait_for};
+use statement_steps::{Attempt, Stop, hold_if_repeatable, lock_named, wait_for};
 use std::alloc::Global;
 use stores::Stores;
 use tx_table::TxTable;
@@ -52,23 +52,23 @@ fn check_pending(
 
 // A part: nothing stands against it.
 fn check(
-    alloc: Global,
+    attempt: &Attempt<'_>,
     stores: &Stores,
-    caller: Caller,
     parent: TableNo,
     table: TableNo,
 ) -> Result<(), Stop>
-    requires may { MayAttempt stores.now caller }
+    requires may { MayAttempt stores.now attempt.now.caller }
     requires parent { parent.number < length stores.now.catalog.tables }
     requires table { table.number < length stores.now.catalog.tables }
-    ensures step { IsStep (λ u. u) result stores.now stores.now caller caller.cmd (finalized.judged caller.session parent.number table.number) }
-    ensures partition { IfOk result (λ u. IsPartition stores.now caller.session parent table.number) }
-    ensures pending { IfOk result (λ u. IsPendingPart stores.now caller.session parent table.number) }
+    ensures step { IsStep (λ u. u) result stores.now stores.now attempt.now.caller attempt.now.caller.cmd (finalized.judged attempt.now.caller.session parent.number table.number) }
+    ensures partition { IfOk result (λ u. IsPartition stores.now attempt.now.caller.session parent table.number) }
+    ensures pending { IfOk result (λ u. IsPendingPart stores.now attempt.now.caller.session parent table.number) }
 {
+    let session = attempt.caller.session;
     legal_keeps_all();
     listed_is_there();
     let Stores { txs, catalog, .. } = stores;
-    check_pending(alloc, catalog, txs, caller.session, parent, table)?;
+    check_pending(attempt.alloc, catalog, txs, session, parent, table)?;
     Ok(())
 }
 
@@ -115,22 +115,20 @@ fn unseeing(txs: &TxTable, session: u32, by: Option<TxId>) -> SessionSet
 
 // A part: no open snapshot of another session is left that does not see the mark.
 fn wait_for_snapshots(
-    alloc: Global,
+    attempt: &Attempt<'_>,
     stores: &mut Stores,
-    names: &SessionNames,
-    caller: Caller,
     parent: TableNo,
 ) -> Result<(), Stop>
-    requires may { MayAttempt stores.old caller }
-    ensures step { IsStep (λ u. u) result stores.old stores.new caller caller.cmd (finalized.mark_seen names.now caller.session parent.number) }
+    requires may { MayAttempt stores.old attempt.now.caller }
+    ensures step { IsStep (λ u. u) result stores.old stores.new attempt.now.caller attempt.now.caller.cmd (finalized.mark_seen attempt.now.names.now attempt.now.caller.session parent.number) }
     ensures rest { stores.new ≡ record stores.old { locks = stores.new.locks } }
 {
     let Stores { txs, catalog, .. } = &*stores;
-    let by = catalog.mark_of(txs, caller.session, parent);
-    let others = unseeing(txs, caller.session, by);
+    let by = catalog.mark_of(txs, attempt.caller.session, parent);
+    let others = unseeing(txs, attempt.caller.session, by);
     sessions_are_low(others);
     let others = WaitOn::Snapshots(others);
-    wait_for(alloc, stores, names, caller, others, None)
+    wait_for(attempt, stores, others, None)
 }
 
 // ---- the statement
@@ -141,23 +139,21 @@ fn wait_for_snapshots(
 /// not see the mark, and then begins anew; where there is none, the table keeps a CHECK, and is a partition no
 /// more.
 pub fn finalize(
-    alloc: Global,
+    attempt: &Attempt<'_>,
     stores: &mut Stores,
-    names: &SessionNames,
-    caller: Caller,
     parent: &[u8],
     name: &[u8],
 ) -> Result<(), Stop>
-    requires may { MayAttempt stores.old caller }
+    requires may { MayAttempt stores.old attempt.now.caller }
     requires few { length stores.old.catalog.tables ≤ 4096 }
-    ensures { IsStep (λ u. u) result stores.old stores.new caller (caller.cmd + 1) (finalized.finalized names.now caller parent.now name.now) }
+    ensures { IsStep (λ u. u) result stores.old stores.new attempt.now.caller (attempt.now.caller.cmd + 1) (finalized.finalized attempt.now.names.now attempt.now.caller parent.now name.now) }
 {
     let guards = LockMode::ShareUpdateExclusive;
     let owns = LockMode::AccessExclusive;
-    hold_if_repeatable(alloc, stores, caller)?;
-    let parent = lock_named(alloc, stores, names, caller, parent, guards)?;
-    let table = lock_named(alloc, stores, names, caller, name, owns)?;
-    check(alloc, stores, caller, parent, table)?;
-    wait_for_snapshots(alloc, stores, names, caller, parent)?;
-    leave_parent(alloc, stores, caller, parent, table)
+    hold_if_repeatable(attempt, stores)?;
+    let parent = lock_named(attempt, stores, parent, guards)?;
+    let table = lock_named(attempt, stores, name, owns)?;
+    check(attempt, stores, parent, table)?;
+    wait_for_snapshots(attempt, stores, parent)?;
+    leave_parent(attempt, stores, parent, table)
 }

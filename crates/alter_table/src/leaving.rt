@@ -17,8 +17,7 @@ use legal_statements::{check_may_follow, drop_may_follow, listed_is_there, nobod
 use part_catalog::Catalog;
 use pg_values::{NoMemory, TableNo};
 use soundness::legal_keeps_all;
-use statement_steps::{Caller, Stop};
-use std::alloc::Global;
+use statement_steps::{Attempt, Stop};
 use stores::{Stores, trees_are_together};
 
 // The table keeps the CHECK, if there is one.
@@ -40,20 +39,19 @@ fn keep(
 
 /// The last part: the table keeps its CHECK, and then the entry ends by which it is a partition.
 pub(crate) fn leave_parent(
-    alloc: Global,
+    attempt: &Attempt<'_>,
     stores: &mut Stores,
-    caller: Caller,
     parent: TableNo,
     table: TableNo,
 ) -> Result<(), Stop>
-    requires may { MayAttempt stores.old caller }
-    requires guarded { HasGuarded stores.old caller.session parent.number }
+    requires may { MayAttempt stores.old attempt.now.caller }
+    requires guarded { HasGuarded stores.old attempt.now.caller.session parent.number }
     requires parent { parent.number < length stores.old.catalog.tables }
     requires table { table.number < length stores.old.catalog.tables }
-    requires partition { IsPartition stores.old caller.session parent table.number }
-    requires pending { IsPendingPart stores.old caller.session parent table.number }
-    requires owned { HasOwned stores.old caller.session table.number }
-    ensures { IsStep (λ u. u) result stores.old stores.new caller (caller.cmd + 1) (concurrent.partition_left caller parent.number table.number) }
+    requires partition { IsPartition stores.old attempt.now.caller.session parent table.number }
+    requires pending { IsPendingPart stores.old attempt.now.caller.session parent table.number }
+    requires owned { HasOwned stores.old attempt.now.caller.session table.number }
+    ensures { IsStep (λ u. u) result stores.old stores.new attempt.now.caller (attempt.now.caller.cmd + 1) (concurrent.partition_left attempt.now.caller parent.number table.number) }
 {
     trees_are_together();
     legal_keeps_all();
@@ -61,13 +59,13 @@ pub(crate) fn leave_parent(
     nobody_else_ends();
     check_may_follow();
     drop_may_follow();
-    let session = caller.session;
+    let session = attempt.caller.session;
     let Some(by) = stores.txs.open_of(session) else {
         unreachable!()
     };
     let Stores { txs, catalog, .. } = stores;
-    let check = new_check(alloc, catalog, txs, session, parent, table)?;
-    keep(catalog, table, check, by, caller.cmd)?;
-    catalog.end_entry(txs, parent, table, by, caller.cmd);
+    let check = new_check(attempt.alloc, catalog, txs, session, parent, table)?;
+    keep(catalog, table, check, by, attempt.caller.cmd)?;
+    catalog.end_entry(txs, parent, table, by, attempt.caller.cmd);
     Ok(())
 }

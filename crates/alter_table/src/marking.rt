@@ -18,7 +18,7 @@ use part_catalog::Catalog;
 use part_ddl::{default_of, parent_level};
 use pg_values::{LockMode, Refusal, TableNo};
 use refusals::{has_default_partition, not_a_partition, partition_is_pending};
-use statement_steps::{Caller, RestOfDetach, SessionNames, Stop, lock_named};
+use statement_steps::{Attempt, Caller, RestOfDetach, Stop, lock_named};
 use std::alloc::Global;
 use stores::{Stores, trees_are_together};
 use tx_table::TxTable;
@@ -73,21 +73,21 @@ fn check_partition(
 
 // A part: nothing stands against it.
 fn check(
-    alloc: Global,
+    attempt: &Attempt<'_>,
     stores: &Stores,
-    caller: Caller,
     parent: TableNo,
     table: TableNo,
 ) -> Result<(), Stop>
-    requires may { MayAttempt stores.now caller }
+    requires may { MayAttempt stores.now attempt.now.caller }
     requires parent { parent.number < length stores.now.catalog.tables }
     requires table { table.number < length stores.now.catalog.tables }
-    ensures step { IsStep (λ u. u) result stores.now stores.now caller caller.cmd (concurrent.judged caller.session parent.number table.number) }
-    ensures markable { IfOk result (λ u. MayBeMarked stores.now caller.session parent.number table.number) }
+    ensures step { IsStep (λ u. u) result stores.now stores.now attempt.now.caller attempt.now.caller.cmd (concurrent.judged attempt.now.caller.session parent.number table.number) }
+    ensures markable { IfOk result (λ u. MayBeMarked stores.now attempt.now.caller.session parent.number table.number) }
 {
+    let session = attempt.caller.session;
     trees_are_together();
     let Stores { txs, catalog, .. } = stores;
-    check_partition(alloc, catalog, txs, caller.session, parent, table)?;
+    check_partition(attempt.alloc, catalog, txs, session, parent, table)?;
     Ok(())
 }
 
@@ -123,20 +123,18 @@ fn mark(stores: &mut Stores, caller: Caller, parent: TableNo, table: TableNo) ->
 
 /// Stage 1: the parent is locked, then the table, and its entry is marked.
 pub(crate) fn run_first_stage(
-    alloc: Global,
+    attempt: &Attempt<'_>,
     stores: &mut Stores,
-    names: &SessionNames,
-    caller: Caller,
     parent: &[u8],
     name: &[u8],
 ) -> Result<RestOfDetach, Stop>
-    requires may { MayAttempt stores.old caller }
+    requires may { MayAttempt stores.old attempt.now.caller }
     requires few { length stores.old.catalog.tables ≤ 4096 }
-    ensures { IsStep (λ d. d) result stores.old stores.new caller (caller.cmd + 1) (concurrent.first_stage names.now caller parent.now name.now) }
+    ensures { IsStep (λ d. d) result stores.old stores.new attempt.now.caller (attempt.now.caller.cmd + 1) (concurrent.first_stage attempt.now.names.now attempt.now.caller parent.now name.now) }
 {
     let mode = LockMode::ShareUpdateExclusive;
-    let parent = lock_named(alloc, stores, names, caller, parent, mode)?;
-    let table = lock_named(alloc, stores, names, caller, name, mode)?;
-    check(alloc, stores, caller, parent, table)?;
-    Ok(mark(stores, caller, parent, table))
+    let parent = lock_named(attempt, stores, parent, mode)?;
+    let table = lock_named(attempt, stores, name, mode)?;
+    check(attempt, stores, parent, table)?;
+    Ok(mark(stores, attempt.caller, parent, table))
 }

@@ -21,8 +21,7 @@ use pg_values::{LockMode, Refusal, SessionSet};
 use refusals::not_the_pending_partition;
 use soundness::legal_keeps_all;
 use statement_steps::{
-    Caller, Ending, Rest, RestOfDetach, SessionNames, Stop, ended, lock_named_still, stopped_on,
-    wait_for,
+    Attempt, Ending, Rest, RestOfDetach, Stop, ended, lock_named_still, stopped_on, wait_for,
 };
 use std::alloc::Global;
 use stores::Stores;
@@ -41,18 +40,16 @@ fn behind_nobody(rest: RestOfDetach) -> RestOfDetach
 
 // A part: the transactions of the others end.
 fn wait_for_others(
-    alloc: Global,
+    attempt: &Attempt<'_>,
     stores: &mut Stores,
-    names: &SessionNames,
-    caller: Caller,
     rest: RestOfDetach,
 ) -> Result<(), Stop>
-    requires may { MayAttempt stores.old caller }
-    ensures step { IsStep (λ u. u) result stores.old stores.new caller caller.cmd (concurrent.others_ended names.now caller.session rest) }
+    requires may { MayAttempt stores.old attempt.now.caller }
+    ensures step { IsStep (λ u. u) result stores.old stores.new attempt.now.caller attempt.now.caller.cmd (concurrent.others_ended attempt.now.names.now attempt.now.caller.session rest) }
     ensures rest { stores.new ≡ record stores.old { locks = stores.new.locks } }
 {
-    let others = WaitOn::Ends(rest.behind.without(caller.session));
-    wait_for(alloc, stores, names, caller, others, None)
+    let others = WaitOn::Ends(rest.behind.without(attempt.caller.session));
+    wait_for(attempt, stores, others, None)
 }
 
 // ---- stage 3
@@ -90,61 +87,57 @@ fn check_mark(
 }
 
 // A part: nothing stands against its end.
-fn check(alloc: Global, stores: &Stores, caller: Caller, rest: RestOfDetach) -> Result<(), Stop>
-    requires may { MayAttempt stores.now caller }
+fn check(attempt: &Attempt<'_>, stores: &Stores, rest: RestOfDetach) -> Result<(), Stop>
+    requires may { MayAttempt stores.now attempt.now.caller }
     requires parent { rest.parent.number < length stores.now.catalog.tables }
     requires table { rest.table.number < length stores.now.catalog.tables }
-    ensures step { IsStep (λ u. u) result stores.now stores.now caller caller.cmd (concurrent.judged_still caller.session rest) }
-    ensures partition { IfOk result (λ u. IsPartition stores.now caller.session rest.parent rest.table.number) }
-    ensures pending { IfOk result (λ u. IsPendingPart stores.now caller.session rest.parent rest.table.number) }
+    ensures step { IsStep (λ u. u) result stores.now stores.now attempt.now.caller attempt.now.caller.cmd (concurrent.judged_still attempt.now.caller.session rest) }
+    ensures partition { IfOk result (λ u. IsPartition stores.now attempt.now.caller.session rest.parent rest.table.number) }
+    ensures pending { IfOk result (λ u. IsPendingPart stores.now attempt.now.caller.session rest.parent rest.table.number) }
 {
     legal_keeps_all();
     listed_is_there();
     let Stores { txs, catalog, .. } = stores;
-    check_mark(alloc, catalog, txs, caller.session, rest)?;
+    check_mark(attempt.alloc, catalog, txs, attempt.caller.session, rest)?;
     Ok(())
 }
 
 // The transactions of the others end. Then both tables are locked anew, and the entry ends where it is pending still.
 fn run_later_stages(
-    alloc: Global,
+    attempt: &Attempt<'_>,
     stores: &mut Stores,
-    names: &SessionNames,
-    caller: Caller,
     rest: RestOfDetach,
     parent: &[u8],
     name: &[u8],
 ) -> Result<(), Stop>
-    requires may { MayAttempt stores.old caller }
+    requires may { MayAttempt stores.old attempt.now.caller }
     requires few { length stores.old.catalog.tables ≤ 4096 }
-    ensures { IsStep (λ u. u) result stores.old stores.new caller (caller.cmd + 1) (concurrent.later_stages names.now caller rest parent.now name.now) }
+    ensures { IsStep (λ u. u) result stores.old stores.new attempt.now.caller (attempt.now.caller.cmd + 1) (concurrent.later_stages attempt.now.names.now attempt.now.caller rest parent.now name.now) }
 {
     let above = rest.parent;
     let table = rest.table;
     let guards = LockMode::ShareUpdateExclusive;
     let owns = LockMode::AccessExclusive;
-    wait_for_others(alloc, stores, names, caller, rest)?;
-    lock_named_still(alloc, stores, names, caller, parent, above, guards)?;
-    lock_named_still(alloc, stores, names, caller, name, table, owns)?;
-    check(alloc, stores, caller, rest)?;
-    leave_parent(alloc, stores, caller, above, table)
+    wait_for_others(attempt, stores, rest)?;
+    lock_named_still(attempt, stores, parent, above, guards)?;
+    lock_named_still(attempt, stores, name, table, owns)?;
+    check(attempt, stores, rest)?;
+    leave_parent(attempt, stores, above, table)
 }
 
 // It waits on in the same stage, or in the next one.
 fn go_on(
-    alloc: Global,
+    attempt: &Attempt<'_>,
     stores: &mut Stores,
-    names: &SessionNames,
-    caller: Caller,
     rest: RestOfDetach,
     parent: &[u8],
     name: &[u8],
 ) -> Result<(), Stop>
-    requires may { MayAttempt stores.old caller }
+    requires may { MayAttempt stores.old attempt.now.caller }
     requires few { length stores.old.catalog.tables ≤ 4096 }
-    ensures { IsStep (λ u. u) result stores.old stores.new caller (caller.cmd + 1) (λ h. going_on (Some (Detach (concurrent.behind_nobody rest))) (concurrent.later_stages names.now caller rest parent.now name.now h)) }
+    ensures { IsStep (λ u. u) result stores.old stores.new attempt.now.caller (attempt.now.caller.cmd + 1) (λ h. going_on (Some (Detach (concurrent.behind_nobody rest))) (concurrent.later_stages attempt.now.names.now attempt.now.caller rest parent.now name.now h)) }
 {
-    match run_later_stages(alloc, stores, names, caller, rest, parent, name) {
+    match run_later_stages(attempt, stores, rest, parent, name) {
         Ok(()) => Ok(()),
         Err(stop) => Err(stopped_on(stop, Some(Rest::Detach(behind_nobody(rest))))),
     }
@@ -169,22 +162,20 @@ fn detach_of(rest: Option<Rest>) -> Option<RestOfDetach>
 /// of the two is gone (42P01), and where the mark does not stand any more (55000); else the table keeps a CHECK,
 /// and is a partition no more.
 pub fn detach_concurrently(
-    alloc: Global,
+    attempt: &Attempt<'_>,
     stores: &mut Stores,
-    names: &SessionNames,
-    caller: Caller,
     rest: Option<Rest>,
     parent: &[u8],
     name: &[u8],
 ) -> Result<Ending, Stop>
-    requires may { MayAttempt stores.old caller }
+    requires may { MayAttempt stores.old attempt.now.caller }
     requires few { length stores.old.catalog.tables ≤ 4096 }
-    ensures { IsStep (λ e. e) result stores.old stores.new caller (caller.cmd + 1) (concurrent.detached_concurrently names.now caller rest parent.now name.now) }
+    ensures { IsStep (λ e. e) result stores.old stores.new attempt.now.caller (attempt.now.caller.cmd + 1) (concurrent.detached_concurrently attempt.now.names.now attempt.now.caller rest parent.now name.now) }
 {
     match detach_of(rest) {
-        Some(rest) => ended(go_on(alloc, stores, names, caller, rest, parent, name)),
+        Some(rest) => ended(go_on(attempt, stores, rest, parent, name)),
         None => {
-            let marked = run_first_stage(alloc, stores, names, caller, parent, name)?;
+            let marked = run_first_stage(attempt, stores, parent, name)?;
             Ok(Ending::Commits(marked))
         }
     }

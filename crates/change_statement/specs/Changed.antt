@@ -110,7 +110,7 @@ pub record Told : Type 0 where
   pub reads : List LeafId
 
 abbrev pub told_by : ChangedRows → Told
-told_by r = record { rows = r.count; reads = r.reads.items }
+told_by r = record { rows = r.count; reads = r.reads }
 
 -- each leaf is read once, whether or not the statement has waited meanwhile
 abbrev pub told_of : Found → ℕ → Told

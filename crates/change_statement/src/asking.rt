@@ -18,7 +18,7 @@ use pg_values::{NoMemory, PgText, Refusal, TableNo};
 use plan_tree::Planning;
 use sql_ast::{Delete, NamedTable, Update};
 use sql_binder::{bind_delete, bind_update, put_change_values};
-use statement_steps::{Caller, Stop, scope_columns};
+use statement_steps::{Attempt, Stop, scope_columns};
 use std::alloc::Global;
 use stores::Stores;
 
@@ -92,19 +92,19 @@ fn bind_columns(
 /// Names and kinds are bound over the columns of the table and constants evaluated; for a custom plan the values of
 /// parameters are put in their places.
 pub(crate) fn bind(
-    alloc: Global,
+    attempt: &Attempt<'_>,
     stores: &Stores,
     how: Planning,
     params: &[Param],
-    caller: Caller,
     change: Change<'_>,
     table: TableNo,
 ) -> Result<ChangeAsk, Stop>
-    requires may { MayAttempt stores.now caller }
+    requires may { MayAttempt stores.now attempt.now.caller }
     requires known { table.number < length stores.now.catalog.tables }
-    ensures { IsStep change_meant result stores.now stores.now caller caller.cmd (gathered.meant how params.now caller (gathered.table_named change.entry) (gathered.settings_of change.entry) (gathered.condition_of change.entry) table.number) }
+    ensures { IsStep change_meant result stores.now stores.now attempt.now.caller attempt.now.caller.cmd (gathered.meant how params.now attempt.now.caller (gathered.table_named change.entry) (gathered.settings_of change.entry) (gathered.condition_of change.entry) table.number) }
 {
+    let session = attempt.caller.session;
     let columns = stores.catalog.table(table).columns.as_slice();
-    let ask = bind_columns(alloc, how, change, columns, params, caller.session)?;
+    let ask = bind_columns(attempt.alloc, how, change, columns, params, session)?;
     Ok(ask)
 }

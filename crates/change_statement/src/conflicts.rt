@@ -14,7 +14,7 @@ use part_catalog::Catalog;
 use pg_values::{Fault, LeafId, NoMemory, PgText, TableNo};
 use row_change::leaf_way;
 use row_router::Tree;
-use statement_steps::SessionNames;
+use statement_steps::Attempt;
 use std::alloc::Global;
 
 fn last_or(first: TableNo, way: &[TableNo]) -> TableNo
@@ -43,41 +43,40 @@ fn holder(alloc: Global, tree: &Tree, leaf: LeafId) -> Result<TableNo, NoMemory>
     }
 }
 
-fn session_name(alloc: Global, names: &SessionNames, session: u32) -> Result<PgText, NoMemory>
-    ensures { IfOk result (λ name. name ≡ faults.name_of names.now session) }
+fn session_name(attempt: &Attempt<'_>, session: u32) -> Result<PgText, NoMemory>
+    ensures { IfOk result (λ name. name ≡ faults.name_of attempt.now.names.now session) }
 {
-    match names.as_slice().get(session as usize) {
-        Some(name) => name.copy(alloc),
-        None => PgText::new(alloc),
+    match attempt.names.as_slice().get(session as usize) {
+        Some(name) => name.copy(attempt.alloc),
+        None => PgText::new(attempt.alloc),
     }
 }
 
 fn fault_for(
-    alloc: Global,
+    attempt: &Attempt<'_>,
     catalog: &Catalog,
-    names: &SessionNames,
     table: TableNo,
     conflict: Conflict,
 ) -> Result<Fault, NoMemory>
     requires { table.number < length catalog.now.tables }
-    ensures { IfOk result (λ f. (h : History) → CatalogueStands catalog.now h → f ≡ changed.fault_in names.now table conflict h) }
+    ensures { IfOk result (λ f. (h : History) → CatalogueStands catalog.now h → f ≡ changed.fault_in attempt.now.names.now table conflict h) }
 {
-    let session = session_name(alloc, names, conflict.session())?;
+    let alloc = attempt.alloc;
+    let session = session_name(attempt, conflict.session())?;
     could_not_serialize(alloc, conflict, catalog.name_of(table), session.as_bytes())
 }
 
 /// The fault, by the names of the table that has the leaf and of the session that was there before.
 pub(crate) fn conflict_fault(
-    alloc: Global,
+    attempt: &Attempt<'_>,
     catalog: &Catalog,
-    names: &SessionNames,
     tree: &Tree,
     leaf: LeafId,
     conflict: Conflict,
 ) -> Result<Fault, NoMemory>
     requires { AllTables (λ t. t.number < length catalog.now.tables) (seen tree.now) }
-    ensures { IfOk result (λ f. (h : History) → CatalogueStands catalog.now h → f ≡ changed.conflict_fault names.now (seen tree.now) leaf conflict h) }
+    ensures { IfOk result (λ f. (h : History) → CatalogueStands catalog.now h → f ≡ changed.conflict_fault attempt.now.names.now (seen tree.now) leaf conflict h) }
 {
-    let table = holder(alloc, tree, leaf)?;
-    fault_for(alloc, catalog, names, table, conflict)
+    let table = holder(attempt.alloc, tree, leaf)?;
+    fault_for(attempt, catalog, table, conflict)
 }

@@ -14,12 +14,10 @@ use crate::asking::{Change, bind, table_named};
 use crate::keeping::keep;
 use cond_logic::ChangeAsk;
 use expression_binder::Param;
-use pg_values::{LockMode, NoMemory};
+use pg_values::{ListOf, LockMode, NoMemory};
 use plan_tree::{Planning, trees_can_be_pruned};
 use sql_binder::{put_change_values, values_of};
-use statement_steps::{
-    Caller, Gathered, SessionNames, Stop, lock_named, lock_tables, tree_and_path,
-};
+use statement_steps::{Attempt, Gathered, Stop, lock_named, lock_tables, tree_and_path};
 use std::alloc::Global;
 use stores::Stores;
 
@@ -38,42 +36,33 @@ fn put_apart(
 /// The named table is found and locked, names and kinds are bound, and the tables under it that are needed
 /// are locked. A generic plan is started then.
 pub(crate) fn gather(
-    alloc: Global,
+    attempt: &Attempt<'_>,
     stores: &mut Stores,
-    names: &SessionNames,
     params: &[Param],
-    caller: Caller,
     how: Planning,
     change: Change<'_>,
 ) -> Result<Gathered, Stop>
-    requires may { MayAttempt stores.old caller }
+    requires may { MayAttempt stores.old attempt.now.caller }
     requires few { length stores.old.catalog.tables ≤ 4096 }
-    ensures step { IsStep found_of result stores.old stores.new caller caller.cmd (gathered.gathered_for how names.now params.now caller change.entry) }
-    ensures found { IfOk result (λ g. IsGathered stores.new caller (found_of g)) }
+    ensures step { IsStep found_of result stores.old stores.new attempt.now.caller attempt.now.caller.cmd (gathered.gathered_for how attempt.now.names.now params.now attempt.now.caller change.entry) }
+    ensures found { IfOk result (λ g. IsGathered stores.new attempt.now.caller (found_of g)) }
     ensures rest { stores.new ≡ record stores.old { locks = stores.new.locks } }
 {
     trees_can_be_pruned();
     let name = table_named(change).name.as_bytes();
-    let table = lock_named(alloc, stores, names, caller, name, LockMode::RowExclusive)?;
-    let (tree, path) = tree_and_path(alloc, stores, caller, table)?;
-    let ask = bind(alloc, stores, how, params, caller, change, table)?;
-    let args = values_of(alloc, how.apart(params))?;
-    let kept = keep(alloc, how, &args, &ask, &tree)?;
-    let ask = put_apart(alloc, how, params, ask)?;
-    lock_tables(
-        alloc,
-        stores,
-        names,
-        caller,
-        &kept.tables,
-        LockMode::RowExclusive,
-    )?;
+    let table = lock_named(attempt, stores, name, LockMode::RowExclusive)?;
+    let (tree, path) = tree_and_path(attempt, stores, table)?;
+    let ask = bind(attempt, stores, how, params, change, table)?;
+    let args = values_of(attempt.alloc, how.apart(params))?;
+    let kept = keep(attempt.alloc, how, &args, &ask, &tree)?;
+    let ask = put_apart(attempt.alloc, how, params, ask)?;
+    lock_tables(attempt, stores, &kept.tables, LockMode::RowExclusive)?;
     Ok(Gathered {
         table,
         tree,
-        path,
+        path: ListOf::from_vec(path),
         ask,
-        leaves: kept.leaves,
+        leaves: ListOf::from_vec(kept.leaves),
         moves: kept.moves,
     })
 }

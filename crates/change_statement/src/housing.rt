@@ -8,8 +8,7 @@ ghost use Rattle.change_statement.specs.Running.{MayRun};
 
 use pg_values::{LeafId, NoMemory};
 use row_change::{Holders, Target, target_of};
-use statement_steps::{Caller, Gathered};
-use std::alloc::Global;
+use statement_steps::{Attempt, Gathered};
 use stores::{Stores, trees_are_together};
 
 /// The tables of the tree by their leaves, and the target of the leaf where the last row went. Rows are taken leaf
@@ -32,19 +31,19 @@ fn is_last(last: &Option<Target>, leaf: LeafId) -> bool
 /// The target of the leaf is made, unless it is the last one. It stays true from row to row: while the statement
 /// runs, rows change, and the catalogue does not.
 pub(crate) fn keep_target(
-    alloc: Global,
+    attempt: &Attempt<'_>,
     stores: &Stores,
-    caller: Caller,
     gathered: &Gathered,
     housing: &mut Housing,
     leaf: LeafId,
 ) -> Result<(), NoMemory>
-    requires may { MayRun (found_of gathered.now) stores.now caller }
+    requires may { MayRun (found_of gathered.now) stores.now attempt.now.caller }
     requires way { HasWay (found_of gathered.now).tree leaf }
-    requires housing { IsHousing stores.now caller.session (found_of gathered.now).tree housing.old }
-    ensures housing { OnOk result (IsHousing stores.now caller.session (found_of gathered.now).tree housing.new) }
+    requires housing { IsHousing stores.now attempt.now.caller.session (found_of gathered.now).tree housing.old }
+    ensures housing { OnOk result (IsHousing stores.now attempt.now.caller.session (found_of gathered.now).tree housing.new) }
     ensures kept { OnOk result (goes_into leaf housing.new.last ≡ true) }
 {
+    let session = attempt.caller.session;
     if is_last(&housing.last, leaf) {
         return Ok(());
     }
@@ -53,7 +52,7 @@ pub(crate) fn keep_target(
         unreachable!()
     };
     let catalog = &stores.catalog;
-    let target = target_of(alloc, catalog, &stores.txs, caller.session, leaf, table)?;
+    let target = target_of(attempt.alloc, catalog, &stores.txs, session, leaf, table)?;
     housing.last = Some(target);
     Ok(())
 }

@@ -90,8 +90,8 @@ fn prune<'t>(
     tree: &'t Tree,
 ) -> Result<KeptParts<'t>, NoMemory>
     requires { CanPrune (seen tree.now) }
-    ensures tables { IfOk result (λ k. k.tables.items ≡ kept_tables (keeps_for prunes (maybe_cond condition.now)) (seen tree.now)) }
-    ensures leaves { IfOk result (λ k. k.leaves.items ≡ kept_leaves (keeps_for prunes (maybe_cond condition.now)) (seen tree.now)) }
+    ensures tables { IfOk result (λ k. k.tables ≡ kept_tables (keeps_for prunes (maybe_cond condition.now)) (seen tree.now)) }
+    ensures leaves { IfOk result (λ k. k.leaves ≡ kept_leaves (keeps_for prunes (maybe_cond condition.now)) (seen tree.now)) }
 {
     match condition {
         Some(cond) => prune_tree(alloc, prunes, cond, tree),
@@ -114,7 +114,7 @@ fn prune_with(
     conds.push(copy_cond(alloc, cond)?)?;
     conds.push(bind_params(alloc, cond, args)?)?;
     let kept = prune_item(alloc, prunes, 0, &conds, tree)?;
-    ids_of(alloc, &kept.leaves)
+    ids_of(alloc, kept.leaves.as_slice())
 }
 
 // The leaves that are read.
@@ -154,12 +154,13 @@ pub(crate) fn keep(
     ensures moves { IfOk result (λ k. k.moves ≡ kept_spec.moves (keeps_for how.prunes (change_meant ask.now).condition) (change_meant ask.now).settings (seen tree.now)) }
 {
     let kept = prune(alloc, how.prunes, &ask.condition, tree)?;
-    let leaves = start(alloc, how, args, &ask.condition, &kept.leaves, tree)?;
-    let moves = !kept.leaves.is_empty() && sets_key(ask.settings.as_slice(), tree);
+    let under = kept.leaves.as_slice();
+    let leaves = start(alloc, how, args, &ask.condition, under, tree)?;
+    let moves = !under.is_empty() && sets_key(ask.settings.as_slice(), tree);
     let tables = if moves {
         tables_below(alloc, tree)?
     } else {
-        kept.tables
+        kept.tables.into_vec()
     };
     Ok(Kept {
         tables,

@@ -27,8 +27,7 @@ use crate::waiting::pause;
 use crate::{ChangedRows, Updater, Verdict, decide, find_targets};
 use pg_values::{Isolation, NoMemory};
 use row_change::holders_of;
-use statement_steps::{Caller, Gathered, SessionNames, Stop, TargetRow};
-use std::alloc::Global;
+use statement_steps::{Attempt, Caller, Gathered, Stop, TargetRow};
 use stores::Stores;
 
 fn repeats(caller: Caller) -> bool
@@ -61,44 +60,33 @@ fn updater<'c>(stores: &Stores, caller: Caller, gathered: &'c Gathered) -> Updat
 // The first of the rows that are left: it is changed or passed over, or it has to be waited for, or the statement
 // stops there.
 fn change_row(
-    alloc: Global,
+    attempt: &Attempt<'_>,
     stores: &mut Stores,
-    names: &SessionNames,
-    caller: Caller,
     gathered: &Gathered,
     housing: &mut Housing,
     change: Change<'_>,
     target: TargetRow,
     changed: u64,
 ) -> Result<Turn, Stop>
-    requires may { MayRun (found_of gathered.now) stores.old caller }
-    requires housing { IsHousing stores.old caller.session (found_of gathered.now).tree housing.old }
+    requires may { MayRun (found_of gathered.now) stores.old attempt.now.caller }
+    requires housing { IsHousing stores.old attempt.now.caller.session (found_of gathered.now).tree housing.old }
     requires target { IsTargetIn stores.old.rows (found_of gathered.now) target }
     requires few { CanBeCounted changed 1 }
-    ensures turn { IsTurn (changing change.entry caller (found_of gathered.now)) names.now result stores.old stores.new caller (found_of gathered.now) target changed }
-    ensures housing { OnOk result (IsHousing stores.old caller.session (found_of gathered.now).tree housing.new) }
+    ensures turn { IsTurn (changing change.entry attempt.now.caller (found_of gathered.now)) attempt.now.names.now result stores.old stores.new attempt.now.caller (found_of gathered.now) target changed }
+    ensures housing { OnOk result (IsHousing stores.old attempt.now.caller.session (found_of gathered.now).tree housing.new) }
 {
-    let updater = updater(stores, caller, gathered);
+    let updater = updater(stores, attempt.caller, gathered);
     match decide(&stores.rows, &stores.txs, &updater, target.id) {
         Verdict::Change(seen) => {
             let id = seen.id;
             match change {
                 Change::Update(_) => {
-                    let row = renew(alloc, &stores.catalog, gathered, seen.row)?;
-                    store(
-                        alloc,
-                        stores,
-                        caller,
-                        gathered,
-                        housing,
-                        target.leaf,
-                        id,
-                        row,
-                    )?;
+                    let row = renew(attempt.alloc, &stores.catalog, gathered, seen.row)?;
+                    store(attempt, stores, gathered, housing, target.leaf, id, row)?;
                     Ok(Turn::Counted(changed + 1))
                 }
                 Change::Delete(_) => {
-                    end_row(stores, caller, gathered, id);
+                    end_row(stores, attempt.caller, gathered, id);
                     Ok(Turn::Counted(changed + 1))
                 }
             }
@@ -108,7 +96,7 @@ fn change_row(
         Verdict::Refuse(conflict) => {
             let tree = &gathered.tree;
             let catalog = &stores.catalog;
-            let fault = conflict_fault(alloc, catalog, names, tree, target.leaf, conflict)?;
+            let fault = conflict_fault(attempt, catalog, tree, target.leaf, conflict)?;
             Err(Stop::Refused(fault))
         }
     }
@@ -117,21 +105,19 @@ fn change_row(
 /// The rows are changed, one after the other. Where one has to be waited for, what was gathered is kept for it and
 /// those behind it. It is told how many are changed, with those before, and which leaves were read.
 pub(crate) fn change_rows(
-    alloc: Global,
+    attempt: &Attempt<'_>,
     stores: &mut Stores,
-    names: &SessionNames,
-    caller: Caller,
     gathered: Gathered,
     change: Change<'_>,
     targets: &[TargetRow],
     changed: u64,
 ) -> Result<ChangedRows, Stop>
-    requires may { MayRun (found_of gathered) stores.old caller }
+    requires may { MayRun (found_of gathered) stores.old attempt.now.caller }
     requires targets { All (IsTargetIn stores.old.rows (found_of gathered)) targets.now }
     requires few { CanBeCounted changed (length targets.now) }
-    ensures { IsRun (found_of gathered) changed_spec.told_by result stores.old stores.new caller (λ h. giving (changed_spec.told_of (found_of gathered)) (changed_spec.all_changed (changing change.entry caller (found_of gathered)) names.now caller (found_of gathered) targets.now changed h)) }
+    ensures { IsRun (found_of gathered) changed_spec.told_by result stores.old stores.new attempt.now.caller (λ h. giving (changed_spec.told_of (found_of gathered)) (changed_spec.all_changed (changing change.entry attempt.now.caller (found_of gathered)) attempt.now.names.now attempt.now.caller (found_of gathered) targets.now changed h)) }
 {
-    let holders = holders_of(alloc, &gathered.tree)?;
+    let holders = holders_of(attempt.alloc, &gathered.tree)?;
     let mut housing = Housing {
         holders,
         last: None,
@@ -140,10 +126,8 @@ pub(crate) fn change_rows(
     let mut changed = changed;
     while let Some((target, others)) = left.split_first() {
         let turn = change_row(
-            alloc,
+            attempt,
             stores,
-            names,
-            caller,
             &gathered,
             &mut housing,
             change,
@@ -156,7 +140,7 @@ pub(crate) fn change_rows(
                 left = others;
             }
             Turn::Waits(other) => {
-                return Err(pause(alloc, stores, names, caller, other, gathered, left, changed));
+                return Err(pause(attempt, stores, other, gathered, left, changed));
             }
         }
     }
@@ -168,22 +152,22 @@ pub(crate) fn change_rows(
 
 /// The rows of the leaves that are read which the command sees and which pass.
 pub(crate) fn find(
-    alloc: Global,
+    attempt: &Attempt<'_>,
     stores: &Stores,
-    caller: Caller,
     gathered: &Gathered,
 ) -> Result<Vec<TargetRow>, NoMemory>
-    requires may { MayAttempt stores.now caller }
-    requires gathered { IsGathered stores.now caller (found_of gathered.now) }
-    ensures are { IfOk result (λ found. (h : History) → Stands stores.now h → found.items ≡ targets h (look_of h caller.session caller.cmd) (found_of gathered.now).asked.condition (found_of gathered.now).leaves) }
+    requires may { MayAttempt stores.now attempt.now.caller }
+    requires gathered { IsGathered stores.now attempt.now.caller (found_of gathered.now) }
+    ensures are { IfOk result (λ found. (h : History) → Stands stores.now h → found.items ≡ targets h (look_of h attempt.now.caller.session attempt.now.caller.cmd) (found_of gathered.now).asked.condition (found_of gathered.now).leaves) }
     ensures there { IfOk result (λ found. All (IsTargetIn stores.now.rows (found_of gathered.now)) found.items) }
 {
-    let snap = stores.look(alloc, caller.session, caller.cmd)?;
+    let alloc = attempt.alloc;
+    let snap = stores.look(alloc, attempt.caller.session, attempt.caller.cmd)?;
     find_targets(
         alloc,
         &stores.rows,
         &stores.txs,
-        &gathered.leaves,
+        gathered.leaves.as_slice(),
         &snap,
         &gathered.ask.condition,
     )

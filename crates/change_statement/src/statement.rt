@@ -17,70 +17,61 @@ use crate::standing::left_of;
 use expression_binder::Param;
 use plan_tree::Planning;
 use sql_ast::{Delete, Update};
-use statement_steps::{Caller, Rest, RestOfRows, SessionNames, Stop, hold_if_repeatable};
-use std::alloc::Global;
+use statement_steps::{Attempt, Rest, RestOfRows, Stop, hold_if_repeatable};
 use stores::Stores;
 
 // From its beginning. A transaction at REPEATABLE READ takes its snapshot first; what is asked is gathered, and the
 // rows that it finds are changed.
 fn begin(
-    alloc: Global,
+    attempt: &Attempt<'_>,
     stores: &mut Stores,
-    names: &SessionNames,
     params: &[Param],
-    caller: Caller,
     how: Planning,
     change: Change<'_>,
 ) -> Result<ChangedRows, Stop>
-    requires may { MayAttempt stores.old caller }
-    requires next { caller.cmd < 4294967294 }
+    requires may { MayAttempt stores.old attempt.now.caller }
+    requires next { attempt.now.caller.cmd < 4294967294 }
     requires few { length stores.old.catalog.tables ≤ 4096 }
-    ensures { IsCommand None told_by result stores.old stores.new caller (begun how names.now params.now caller change.entry) }
+    ensures { IsCommand None told_by result stores.old stores.new attempt.now.caller (begun how attempt.now.names.now params.now attempt.now.caller change.entry) }
 {
-    hold_if_repeatable(alloc, stores, caller)?;
-    let gathered = gather(alloc, stores, names, params, caller, how, change)?;
-    let targets = find(alloc, stores, caller, &gathered)?;
-    change_rows(alloc, stores, names, caller, gathered, change, &targets, 0)
+    hold_if_repeatable(attempt, stores)?;
+    let gathered = gather(attempt, stores, params, how, change)?;
+    let targets = find(attempt, stores, &gathered)?;
+    change_rows(attempt, stores, gathered, change, &targets, 0)
 }
 
 // From where it stood. The rows that are left are changed, by what was gathered before the wait.
 fn go_on(
-    alloc: Global,
+    attempt: &Attempt<'_>,
     stores: &mut Stores,
-    names: &SessionNames,
-    caller: Caller,
     change: Change<'_>,
     rest: RestOfRows,
 ) -> Result<ChangedRows, Stop>
-    requires may { MayAttempt stores.old caller }
-    requires next { caller.cmd < 4294967294 }
-    requires own { IsOwnRun stores.old caller rest }
-    ensures { IsCommand (Some (Rows rest)) told_by result stores.old stores.new caller (λ h. giving (told_of rest.found) (changed_on (λ g. changing change.entry caller g) names.now caller rest h)) }
+    requires may { MayAttempt stores.old attempt.now.caller }
+    requires next { attempt.now.caller.cmd < 4294967294 }
+    requires own { IsOwnRun stores.old attempt.now.caller rest }
+    ensures { IsCommand (Some (Rows rest)) told_by result stores.old stores.new attempt.now.caller (λ h. giving (told_of rest.found) (changed_on (λ g. changing change.entry attempt.now.caller g) attempt.now.names.now attempt.now.caller rest h)) }
 {
     let (gathered, left, changed) = rest.into_parts();
-    change_rows(
-        alloc, stores, names, caller, gathered, change, &left, changed,
-    )
+    change_rows(attempt, stores, gathered, change, &left, changed)
 }
 
 fn change_from(
-    alloc: Global,
+    attempt: &Attempt<'_>,
     stores: &mut Stores,
-    names: &SessionNames,
     params: &[Param],
-    caller: Caller,
     how: Planning,
     rest: Option<Rest>,
     change: Change<'_>,
 ) -> Result<ChangedRows, Stop>
-    requires may { MayAttempt stores.old caller }
-    requires rest { MayGoOn stores.old caller rest }
+    requires may { MayAttempt stores.old attempt.now.caller }
+    requires rest { MayGoOn stores.old attempt.now.caller rest }
     requires few { length stores.old.catalog.tables ≤ 4096 }
-    ensures { IsCommand rest told_by result stores.old stores.new caller (changed_by (λ g. changing change.entry caller g) names.now caller rest (begun how names.now params.now caller change.entry)) }
+    ensures { IsCommand rest told_by result stores.old stores.new attempt.now.caller (changed_by (λ g. changing change.entry attempt.now.caller g) attempt.now.names.now attempt.now.caller rest (begun how attempt.now.names.now params.now attempt.now.caller change.entry)) }
 {
-    match left_of(stores, caller, rest) {
-        Some(rest) => go_on(alloc, stores, names, caller, change, rest),
-        None => begin(alloc, stores, names, params, caller, how, change),
+    match left_of(stores, attempt.caller, rest) {
+        Some(rest) => go_on(attempt, stores, change, rest),
+        None => begin(attempt, stores, params, how, change),
     }
 }
 
@@ -91,22 +82,20 @@ fn change_from(
 /// since is tested again at READ COMMITTED, and refused at REPEATABLE READ (40001), as is one that was moved
 /// to another leaf at both; else its version ends. It tells how many rows it has changed, and what it has read.
 pub fn delete(
-    alloc: Global,
+    attempt: &Attempt<'_>,
     stores: &mut Stores,
-    names: &SessionNames,
     params: &[Param],
-    caller: Caller,
     how: Planning,
     rest: Option<Rest>,
     statement: &Delete,
 ) -> Result<ChangedRows, Stop>
-    requires may { MayAttempt stores.old caller }
-    requires rest { MayGoOn stores.old caller rest }
+    requires may { MayAttempt stores.old attempt.now.caller }
+    requires rest { MayGoOn stores.old attempt.now.caller rest }
     requires few { length stores.old.catalog.tables ≤ 4096 }
-    ensures { IsCommand rest told_by result stores.old stores.new caller (deleted how names.now params.now caller rest statement.now.table (maybe_tree statement.now.condition)) }
+    ensures { IsCommand rest told_by result stores.old stores.new attempt.now.caller (deleted how attempt.now.names.now params.now attempt.now.caller rest statement.now.table (maybe_tree statement.now.condition)) }
 {
     let change = Change::Delete(statement);
-    change_from(alloc, stores, names, params, caller, how, rest, change)
+    change_from(attempt, stores, params, how, rest, change)
 }
 
 /// The UPDATE of a session, likewise. A version that is changed is followed by one with the row that the settings
@@ -114,20 +103,18 @@ pub fn delete(
 /// (23514), NOT NULL (23502) and the kept CHECKs (23514) of the leaf's table and above let it in, and there is room
 /// for it (54000). In its own leaf it replaces the version; else the row moves.
 pub fn update(
-    alloc: Global,
+    attempt: &Attempt<'_>,
     stores: &mut Stores,
-    names: &SessionNames,
     params: &[Param],
-    caller: Caller,
     how: Planning,
     rest: Option<Rest>,
     statement: &Update,
 ) -> Result<ChangedRows, Stop>
-    requires may { MayAttempt stores.old caller }
-    requires rest { MayGoOn stores.old caller rest }
+    requires may { MayAttempt stores.old attempt.now.caller }
+    requires rest { MayGoOn stores.old attempt.now.caller rest }
     requires few { length stores.old.catalog.tables ≤ 4096 }
-    ensures { IsCommand rest told_by result stores.old stores.new caller (updated how names.now params.now caller rest statement.now.table (map setting statement.now.assignments) (maybe_tree statement.now.condition)) }
+    ensures { IsCommand rest told_by result stores.old stores.new attempt.now.caller (updated how attempt.now.names.now params.now attempt.now.caller rest statement.now.table (map setting statement.now.assignments) (maybe_tree statement.now.condition)) }
 {
     let change = Change::Update(statement);
-    change_from(alloc, stores, names, params, caller, how, rest, change)
+    change_from(attempt, stores, params, how, rest, change)
 }

@@ -24,7 +24,7 @@ use crate::new_row;
 use part_catalog::Catalog;
 use pg_values::{LeafId, Refusal, Row, RowId};
 use row_change::{check_bounds, check_kept, check_leaf, leaves_of, succeed_row};
-use statement_steps::{Caller, Gathered, Stop};
+use statement_steps::{Attempt, Gathered, Stop};
 use std::alloc::Global;
 use std::slice::from_ref;
 use stores::Stores;
@@ -60,21 +60,16 @@ fn house(
     requires sound { (h : History) × CatalogueStands stores.now.catalog h }
     requires takes { Takes (length stores.now.catalog.tables) (found_of gathered.now) row.now }
     requires own { HasWay (found_of gathered.now).tree from }
-    ensures is { (h : History) → CatalogueStands stores.now.catalog h → IsAnswer result (updated.housed gathered.now.moves (tables_of h) (seen gathered.now.tree) gathered.now.path.items from row.now) }
+    ensures is { (h : History) → CatalogueStands stores.now.catalog h → IsAnswer result (updated.housed gathered.now.moves (tables_of h) (seen gathered.now.tree) gathered.now.path from row.now) }
     ensures way { IfOk result (λ leaf. HasWay (found_of gathered.now).tree leaf) }
 {
     let catalog = &stores.catalog;
+    let path = gathered.path.as_slice();
     if !gathered.moves {
-        check_bounds(alloc, catalog, &gathered.path, row)?;
+        check_bounds(alloc, catalog, path, row)?;
         return Ok(from);
     }
-    let leaves = leaves_of(
-        alloc,
-        catalog,
-        &gathered.tree,
-        &gathered.path,
-        from_ref(row),
-    )?;
+    let leaves = leaves_of(alloc, catalog, &gathered.tree, path, from_ref(row))?;
     match leaves.as_slice().split_first() {
         Some((leaf, _)) => Ok(*leaf),
         None => unreachable!(),
@@ -83,105 +78,103 @@ fn house(
 
 // NOT NULL and the kept CHECKs of the table that has the leaf.
 fn check_holder(
-    alloc: Global,
+    attempt: &Attempt<'_>,
     stores: &Stores,
-    caller: Caller,
     gathered: &Gathered,
     housing: &mut Housing,
     leaf: LeafId,
     row: &Row,
 ) -> Result<(), Refusal>
-    requires may { MayRun (found_of gathered.now) stores.now caller }
-    requires housing { IsHousing stores.now caller.session (found_of gathered.now).tree housing.old }
+    requires may { MayRun (found_of gathered.now) stores.now attempt.now.caller }
+    requires housing { IsHousing stores.now attempt.now.caller.session (found_of gathered.now).tree housing.old }
     requires of { AreRowsOf stores.now.catalog (found_of gathered.now).table (row.now ∷ []) }
     requires way { HasWay (found_of gathered.now).tree leaf }
-    ensures told { (h : History) → Stands stores.now h → IsAnswer result (or_first (holder_faults h caller.session (seen gathered.now.tree) leaf row.now) tt) }
-    ensures housing { OnOk result (IsHousing stores.now caller.session (found_of gathered.now).tree housing.new) }
+    ensures told { (h : History) → Stands stores.now h → IsAnswer result (or_first (holder_faults h attempt.now.caller.session (seen gathered.now.tree) leaf row.now) tt) }
+    ensures housing { OnOk result (IsHousing stores.now attempt.now.caller.session (found_of gathered.now).tree housing.new) }
 {
-    keep_target(alloc, stores, caller, gathered, housing, leaf)?;
+    keep_target(attempt, stores, gathered, housing, leaf)?;
     match &housing.last {
-        Some(target) => check_leaf(alloc, &stores.catalog, from_ref(target), leaf, row),
+        Some(target) => check_leaf(attempt.alloc, &stores.catalog, from_ref(target), leaf, row),
         None => unreachable!(),
     }
 }
 
 // And those that were gathered of the named table and of those above it, which others may have cut off since.
 fn check(
-    alloc: Global,
+    attempt: &Attempt<'_>,
     stores: &Stores,
-    caller: Caller,
     gathered: &Gathered,
     housing: &mut Housing,
     leaf: LeafId,
     row: &Row,
 ) -> Result<(), Refusal>
-    requires may { MayRun (found_of gathered.now) stores.now caller }
-    requires housing { IsHousing stores.now caller.session (found_of gathered.now).tree housing.old }
+    requires may { MayRun (found_of gathered.now) stores.now attempt.now.caller }
+    requires housing { IsHousing stores.now attempt.now.caller.session (found_of gathered.now).tree housing.old }
     requires of { AreRowsOf stores.now.catalog (found_of gathered.now).table (row.now ∷ []) }
     requires way { HasWay (found_of gathered.now).tree leaf }
-    ensures told { (h : History) → Stands stores.now h → IsAnswer result (or_first (updated.against h caller.session (found_of gathered.now) leaf row.now) tt) }
-    ensures housing { OnOk result (IsHousing stores.now caller.session (found_of gathered.now).tree housing.new) }
+    ensures told { (h : History) → Stands stores.now h → IsAnswer result (or_first (updated.against h attempt.now.caller.session (found_of gathered.now) leaf row.now) tt) }
+    ensures housing { OnOk result (IsHousing stores.now attempt.now.caller.session (found_of gathered.now).tree housing.new) }
 {
-    check_holder(alloc, stores, caller, gathered, housing, leaf, row)?;
-    check_kept(alloc, &stores.catalog, &gathered.path, row)
+    let alloc = attempt.alloc;
+    check_holder(attempt, stores, gathered, housing, leaf, row)?;
+    check_kept(alloc, &stores.catalog, gathered.path.as_slice(), row)
 }
 
 // ---- its version
 
 // The row takes the place of the version.
 fn succeed(
-    alloc: Global,
+    attempt: &Attempt<'_>,
     stores: &mut Stores,
-    caller: Caller,
     gathered: &Gathered,
     from: LeafId,
     id: RowId,
     leaf: LeafId,
     row: Row,
 ) -> Result<(), Stop>
-    requires may { MayRun (found_of gathered.now) stores.old caller }
-    requires version { MayEndIn (found_of gathered.now) stores.old caller id }
+    requires may { MayRun (found_of gathered.now) stores.old attempt.now.caller }
+    requires version { MayEndIn (found_of gathered.now) stores.old attempt.now.caller id }
     requires own { (stored_at stores.old.rows.stored id).version.leaf ≡ from }
     requires keys { Agree (change_meant gathered.now.ask).settings (stored_at stores.old.rows.stored id).version.row row }
     requires of { AreRowsOf stores.old.catalog (found_of gathered.now).table (row ∷ []) }
     requires placed { IsPlacedIn stores.old (found_of gathered.now) from leaf row }
-    requires taken { IsTakenIn stores.old caller (found_of gathered.now) leaf row }
-    ensures run { IsRun (found_of gathered.now) (λ u. u) result stores.old stores.new caller (updated.succeeded caller from id leaf row) }
+    requires taken { IsTakenIn stores.old attempt.now.caller (found_of gathered.now) leaf row }
+    ensures run { IsRun (found_of gathered.now) (λ u. u) result stores.old stores.new attempt.now.caller (updated.succeeded attempt.now.caller from id leaf row) }
     ensures rest { stores.new ≡ record stores.old { rows = stores.new.rows } }
     ensures keeps { KeepsVersions stores.old.rows stores.new.rows }
 {
-    let Some(by) = stores.txs.open_of(caller.session) else {
+    let cmd = attempt.caller.cmd;
+    let Some(by) = stores.txs.open_of(attempt.caller.session) else {
         unreachable!()
     };
     let Stores { txs, rows, .. } = stores;
-    succeed_row(alloc, txs, rows, from, id, leaf, row, by, caller.cmd)?;
+    succeed_row(attempt.alloc, txs, rows, from, id, leaf, row, by, cmd)?;
     Ok(())
 }
 
 /// The row takes the place of the version, in the leaf where it belongs: where no row may move, in that of the
 /// version. What is known of the tree's leaves is kept.
 pub(crate) fn store(
-    alloc: Global,
+    attempt: &Attempt<'_>,
     stores: &mut Stores,
-    caller: Caller,
     gathered: &Gathered,
     housing: &mut Housing,
     from: LeafId,
     id: RowId,
     row: Row,
 ) -> Result<(), Stop>
-    requires may { MayRun (found_of gathered.now) stores.old caller }
-    requires housing { IsHousing stores.old caller.session (found_of gathered.now).tree housing.old }
-    requires version { MayEndIn (found_of gathered.now) stores.old caller id }
+    requires may { MayRun (found_of gathered.now) stores.old attempt.now.caller }
+    requires housing { IsHousing stores.old attempt.now.caller.session (found_of gathered.now).tree housing.old }
+    requires version { MayEndIn (found_of gathered.now) stores.old attempt.now.caller id }
     requires own { (stored_at stores.old.rows.stored id).version.leaf ≡ from }
     requires keys { Agree (change_meant gathered.now.ask).settings (stored_at stores.old.rows.stored id).version.row row }
     requires of { AreRowsOf stores.old.catalog (found_of gathered.now).table (row ∷ []) }
-    ensures run { IsRun (found_of gathered.now) (λ u. u) result stores.old stores.new caller (updated.stored caller (found_of gathered.now) from id row) }
+    ensures run { IsRun (found_of gathered.now) (λ u. u) result stores.old stores.new attempt.now.caller (updated.stored attempt.now.caller (found_of gathered.now) from id row) }
     ensures rest { stores.new ≡ record stores.old { rows = stores.new.rows } }
     ensures keeps { KeepsVersions stores.old.rows stores.new.rows }
-    ensures housing { OnOk result (IsHousing stores.old caller.session (found_of gathered.now).tree housing.new) }
+    ensures housing { OnOk result (IsHousing stores.old attempt.now.caller.session (found_of gathered.now).tree housing.new) }
 {
-    let leaf = house(alloc, stores, gathered, from, &row)?;
-    check(alloc, stores, caller, gathered, housing, leaf, &row)?;
-    succeed(alloc, stores, caller, gathered, from, id, leaf, row)
+    let leaf = house(attempt.alloc, stores, gathered, from, &row)?;
+    check(attempt, stores, gathered, housing, leaf, &row)?;
+    succeed(attempt, stores, gathered, from, id, leaf, row)
 }

@@ -17,7 +17,7 @@ use part_catalog::Catalog;
 use part_ddl::{default_of, tables_below};
 use pg_values::{LockMode, NoMemory, TableNo};
 use soundness::legal_keeps_all;
-use statement_steps::{Caller, SessionNames, Stop, lock_tables};
+use statement_steps::{Attempt, Stop, lock_tables};
 use std::alloc::Global;
 use stores::{Stores, trees_are_together};
 use tx_table::TxTable;
@@ -61,32 +61,20 @@ fn default_tables(
 }
 
 /// A part: the default partition of the parent and the tables under it are locked.
-pub fn lock_default(
-    alloc: Global,
-    stores: &mut Stores,
-    names: &SessionNames,
-    caller: Caller,
-    parent: TableNo,
-) -> Result<(), Stop>
-    requires may { MayAttempt stores.old caller }
+pub fn lock_default(attempt: &Attempt<'_>, stores: &mut Stores, parent: TableNo) -> Result<(), Stop>
+    requires may { MayAttempt stores.old attempt.now.caller }
     requires few { length stores.old.catalog.tables ≤ 4096 }
     requires known { parent.number < length stores.old.catalog.tables }
-    ensures step { IsStep (λ u. u) result stores.old stores.new caller caller.cmd (locks.default_locked names.now caller.session parent.number) }
-    ensures locked { IfOk result (λ u. HasDefaultLocked stores.new caller.session parent.number) }
+    ensures step { IsStep (λ u. u) result stores.old stores.new attempt.now.caller attempt.now.caller.cmd (locks.default_locked attempt.now.names.now attempt.now.caller.session parent.number) }
+    ensures locked { IfOk result (λ u. HasDefaultLocked stores.new attempt.now.caller.session parent.number) }
     ensures rest { stores.new ≡ record stores.old { locks = stores.new.locks } }
 {
+    let session = attempt.caller.session;
     trees_are_together();
     listed_is_there();
     there_is_known();
     tree_is_whole();
     legal_keeps_all();
-    let tables = default_tables(alloc, &stores.catalog, &stores.txs, parent, caller.session)?;
-    lock_tables(
-        alloc,
-        stores,
-        names,
-        caller,
-        &tables,
-        LockMode::AccessExclusive,
-    )
+    let tables = default_tables(attempt.alloc, &stores.catalog, &stores.txs, parent, session)?;
+    lock_tables(attempt, stores, &tables, LockMode::AccessExclusive)
 }

@@ -32,27 +32,25 @@ use row_change::rows_fit_paths;
 use row_router::{PathPart, Shape, Tree, push_leaves};
 use row_store::{RowTest, Verdict};
 use soundness::sessions_have_siblings;
-use statement_steps::Caller;
-use std::alloc::Global;
+use statement_steps::{Attempt, Caller};
 use stores::{Stores, leaves_are_housed, trees_are_together};
 
 // The leaves of a table and of those below it.
 fn leaves_of(
-    alloc: Global,
+    attempt: &Attempt<'_>,
     stores: &Stores,
-    caller: Caller,
     table: TableNo,
 ) -> Result<Vec<LeafId>, NoMemory>
-    requires may { MayAttempt stores.now caller }
+    requires may { MayAttempt stores.now attempt.now.caller }
     requires known { table.number < length stores.now.catalog.tables }
-    ensures is { IfOk result (λ v. (h : History) → TableStands stores.now.txs h → CatalogueStands stores.now.catalog h → v.items ≡ leaves (ddl_tree h caller.session table.number)) }
+    ensures is { IfOk result (λ v. (h : History) → TableStands stores.now.txs h → CatalogueStands stores.now.catalog h → v.items ≡ leaves (ddl_tree h attempt.now.caller.session table.number)) }
     ensures there { IfOk result (λ v. All (λ leaf. leaf.number < stores.now.rows.leaves) v.items) }
 {
     trees_are_together();
     leaves_are_housed();
     let Stores { txs, catalog, .. } = stores;
-    let tree = catalog.ddl_tree(alloc, txs, table, caller.session)?;
-    let mut leaves = Vec::new(alloc);
+    let tree = catalog.ddl_tree(attempt.alloc, txs, table, attempt.caller.session)?;
+    let mut leaves = Vec::new(attempt.alloc);
     push_leaves(&tree, &mut leaves)?;
     Ok(leaves)
 }
@@ -88,32 +86,31 @@ fn judge<'s, T: RowTest>(
 }
 
 fn judge_default_of(
-    alloc: Global,
+    attempt: &Attempt<'_>,
     stores: &Stores,
-    caller: Caller,
     parent: TableNo,
     level: &Level,
     bound: &Bound,
     name: &[u8],
     default: TableNo,
 ) -> Result<SessionSet, Refusal>
-    requires may { MayAttempt stores.now caller }
+    requires may { MayAttempt stores.now attempt.now.caller }
     requires parent { parent.number < length stores.now.catalog.tables }
     requires default { default.number < length stores.now.catalog.tables }
     requires columns { (h : History) → CatalogueStands stores.now.catalog h → HasColumnsOf (made_at h parent.number).columns (made_at h default.number).columns }
     requires level { (h : History) → TableStands stores.now.txs h → CatalogueStands stores.now.catalog h → (made_at h parent.number).shape ≡ Levels level.now }
     requires keys { (h : History) × CatalogueStands stores.now.catalog h × All (LiesIn (made_at h parent.number).columns) level.now.columns }
     requires mine { IsOfLevel level.now bound.now }
-    ensures answer { (h : History) → DataStand stores.now h → IsAnswer result (judged h caller.session (default_scan h caller.session parent.number bound.now name.now (Some default))) }
-    ensures all { IfOk result (λ others. (h : History) → DataStand stores.now h → (r : ℕ) → has others r ≡ watches h caller.session (default_scan h caller.session parent.number bound.now name.now (Some default)) r) }
+    ensures answer { (h : History) → DataStand stores.now h → IsAnswer result (judged h attempt.now.caller.session (default_scan h attempt.now.caller.session parent.number bound.now name.now (Some default))) }
+    ensures all { IfOk result (λ others. (h : History) → DataStand stores.now h → (r : ℕ) → has others r ≡ watches h attempt.now.caller.session (default_scan h attempt.now.caller.session parent.number bound.now name.now (Some default)) r) }
 {
-    let leaves = leaves_of(alloc, stores, caller, default)?;
+    let leaves = leaves_of(attempt, stores, default)?;
     let test = DefaultRows { level, bound };
-    match judge(stores, caller, &leaves, &test) {
+    match judge(stores, attempt.caller, &leaves, &test) {
         Ok(others) => Ok(others),
         Err(row) => {
             let default = stores.catalog.name_of(default);
-            Err(Refusal::Sql(default_has_row(alloc, default, row, name)?))
+            Err(Refusal::Sql(default_has_row(attempt.alloc, default, row, name)?))
         }
     }
 }
@@ -122,37 +119,33 @@ fn judge_default_of(
 /// name and bound: 23514 for the first that it would accept, or else the other sessions whose open snapshots see
 /// such a row.
 pub fn judge_default(
-    alloc: Global,
+    attempt: &Attempt<'_>,
     stores: &Stores,
-    caller: Caller,
     parent: TableNo,
     tree: &Tree,
     bound: &Bound,
     name: &[u8],
 ) -> Result<SessionSet, Refusal>
-    requires may { MayAttempt stores.now caller }
+    requires may { MayAttempt stores.now attempt.now.caller }
     requires known { parent.number < length stores.now.catalog.tables }
     requires takes { (h : History) → CatalogueStands stores.now.catalog h → TakesBound (made_at h parent.number).shape bound.now }
-    requires tree { IsTreeOf stores.now.txs stores.now.catalog caller.session parent.number (seen tree.now) }
-    ensures answer { (h : History) → DataStand stores.now h → IsAnswer result (judged h caller.session (default_scan h caller.session parent.number bound.now name.now (default_of h caller.session parent.number))) }
-    ensures all { IfOk result (λ others. (h : History) → DataStand stores.now h → (r : ℕ) → has others r ≡ watches h caller.session (default_scan h caller.session parent.number bound.now name.now (default_of h caller.session parent.number)) r) }
+    requires tree { IsTreeOf stores.now.txs stores.now.catalog attempt.now.caller.session parent.number (seen tree.now) }
+    ensures answer { (h : History) → DataStand stores.now h → IsAnswer result (judged h attempt.now.caller.session (default_scan h attempt.now.caller.session parent.number bound.now name.now (default_of h attempt.now.caller.session parent.number))) }
+    ensures all { IfOk result (λ others. (h : History) → DataStand stores.now h → (r : ℕ) → has others r ≡ watches h attempt.now.caller.session (default_scan h attempt.now.caller.session parent.number bound.now name.now (default_of h attempt.now.caller.session parent.number)) r) }
 {
     trees_are_together();
     match &tree.shape {
         Shape::Leaf(_) => unreachable!(),
         Shape::Level(level, _, _) => match default_in(tree) {
             None => Ok(SessionSet::empty()),
-            Some(default) => judge_default_of(
-                alloc, stores, caller, parent, level, bound, name, default,
-            ),
+            Some(default) => judge_default_of(attempt, stores, parent, level, bound, name, default),
         },
     }
 }
 
 fn judge_below(
-    alloc: Global,
+    attempt: &Attempt<'_>,
     stores: &Stores,
-    caller: Caller,
     parent: TableNo,
     level: &Level,
     siblings: &BoundSet<ValueKey>,
@@ -160,34 +153,34 @@ fn judge_below(
     bound: &Bound,
     table: TableNo,
 ) -> Result<SessionSet, Refusal>
-    requires may { MayAttempt stores.now caller }
+    requires may { MayAttempt stores.now attempt.now.caller }
     requires parent { parent.number < length stores.now.catalog.tables }
     requires table { table.number < length stores.now.catalog.tables }
     requires columns { (h : History) → CatalogueStands stores.now.catalog h → HasColumnsOf (made_at h parent.number).columns (made_at h table.number).columns }
     requires level { (h : History) → TableStands stores.now.txs h → CatalogueStands stores.now.catalog h → (made_at h parent.number).shape ≡ Levels level.now }
-    requires siblings { (h : History) → TableStands stores.now.txs h → CatalogueStands stores.now.catalog h → siblings.now ≡ bounds_below h caller.session parent.number }
-    requires path { (h : History) → TableStands stores.now.txs h → CatalogueStands stores.now.catalog h → path.now ≡ path_of h caller.session parent.number }
+    requires siblings { (h : History) → TableStands stores.now.txs h → CatalogueStands stores.now.catalog h → siblings.now ≡ bounds_below h attempt.now.caller.session parent.number }
+    requires path { (h : History) → TableStands stores.now.txs h → CatalogueStands stores.now.catalog h → path.now ≡ path_of h attempt.now.caller.session parent.number }
     requires keys { (h : History) × CatalogueStands stores.now.catalog h × All (LiesIn (made_at h parent.number).columns) level.now.columns }
     requires mine { IsOfLevel level.now bound.now }
     requires theirs { All (IsOfLevel level.now) siblings.now }
-    requires place { (h : History) → TableStands stores.now.txs h → CatalogueStands stores.now.catalog h → (height : ℕ) × (place_faults h caller.session parent.number bound.now height ≡ []) }
-    ensures answer { (h : History) → DataStand stores.now h → IsAnswer result (judged h caller.session (place_scan h caller.session parent.number table.number bound.now ∷ [])) }
-    ensures all { IfOk result (λ others. (h : History) → DataStand stores.now h → (r : ℕ) → has others r ≡ watches h caller.session (place_scan h caller.session parent.number table.number bound.now ∷ []) r) }
+    requires place { (h : History) → TableStands stores.now.txs h → CatalogueStands stores.now.catalog h → (height : ℕ) × (place_faults h attempt.now.caller.session parent.number bound.now height ≡ []) }
+    ensures answer { (h : History) → DataStand stores.now h → IsAnswer result (judged h attempt.now.caller.session (place_scan h attempt.now.caller.session parent.number table.number bound.now ∷ [])) }
+    ensures all { IfOk result (λ others. (h : History) → DataStand stores.now h → (r : ℕ) → has others r ≡ watches h attempt.now.caller.session (place_scan h attempt.now.caller.session parent.number table.number bound.now ∷ []) r) }
 {
     rows_fit_paths();
     sessions_have_siblings();
-    let leaves = leaves_of(alloc, stores, caller, table)?;
+    let leaves = leaves_of(attempt, stores, table)?;
     let test = NewRows {
         level,
         siblings,
         bound,
         path,
     };
-    match judge(stores, caller, &leaves, &test) {
+    match judge(stores, attempt.caller, &leaves, &test) {
         Ok(others) => Ok(others),
         Err(row) => {
             let table = stores.catalog.name_of(table);
-            Err(Refusal::Sql(outside_new_bounds(alloc, table, row)?))
+            Err(Refusal::Sql(outside_new_bounds(attempt.alloc, table, row)?))
         }
     }
 }
@@ -196,31 +189,30 @@ fn judge_below(
 /// path are given, with that bound: 23514 for the first that does not suit the new place, or else the other sessions whose open snapshots
 /// see such a row.
 pub fn judge_table(
-    alloc: Global,
+    attempt: &Attempt<'_>,
     stores: &Stores,
-    caller: Caller,
     parent: TableNo,
     tree: &Tree,
     path: &[PathPart],
     bound: &Bound,
     table: TableNo,
 ) -> Result<SessionSet, Refusal>
-    requires may { MayAttempt stores.now caller }
+    requires may { MayAttempt stores.now attempt.now.caller }
     requires parent { parent.number < length stores.now.catalog.tables }
     requires table { table.number < length stores.now.catalog.tables }
     requires columns { (h : History) → CatalogueStands stores.now.catalog h → HasColumnsOf (made_at h parent.number).columns (made_at h table.number).columns }
-    requires tree { IsTreeOf stores.now.txs stores.now.catalog caller.session parent.number (seen tree.now) }
-    requires path { (h : History) → TableStands stores.now.txs h → CatalogueStands stores.now.catalog h → path.now ≡ path_of h caller.session parent.number }
+    requires tree { IsTreeOf stores.now.txs stores.now.catalog attempt.now.caller.session parent.number (seen tree.now) }
+    requires path { (h : History) → TableStands stores.now.txs h → CatalogueStands stores.now.catalog h → path.now ≡ path_of h attempt.now.caller.session parent.number }
     requires takes { (h : History) → CatalogueStands stores.now.catalog h → TakesBound (made_at h parent.number).shape bound.now }
-    requires place { (h : History) → TableStands stores.now.txs h → CatalogueStands stores.now.catalog h → (height : ℕ) × (place_faults h caller.session parent.number bound.now height ≡ []) }
-    ensures answer { (h : History) → DataStand stores.now h → IsAnswer result (judged h caller.session (place_scan h caller.session parent.number table.number bound.now ∷ [])) }
-    ensures all { IfOk result (λ others. (h : History) → DataStand stores.now h → (r : ℕ) → has others r ≡ watches h caller.session (place_scan h caller.session parent.number table.number bound.now ∷ []) r) }
+    requires place { (h : History) → TableStands stores.now.txs h → CatalogueStands stores.now.catalog h → (height : ℕ) × (place_faults h attempt.now.caller.session parent.number bound.now height ≡ []) }
+    ensures answer { (h : History) → DataStand stores.now h → IsAnswer result (judged h attempt.now.caller.session (place_scan h attempt.now.caller.session parent.number table.number bound.now ∷ [])) }
+    ensures all { IfOk result (λ others. (h : History) → DataStand stores.now h → (r : ℕ) → has others r ≡ watches h attempt.now.caller.session (place_scan h attempt.now.caller.session parent.number table.number bound.now ∷ []) r) }
 {
     trees_are_together();
     match &tree.shape {
         Shape::Leaf(_) => unreachable!(),
         Shape::Level(level, siblings, _) => judge_below(
-            alloc, stores, caller, parent, level, siblings, path, bound, table,
+            attempt, stores, parent, level, siblings, path, bound, table,
         ),
     }
 }

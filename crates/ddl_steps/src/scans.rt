@@ -13,28 +13,25 @@ ghost use Rattle.ddl_steps.specs.Waited.{scanned};
 use crate::low::sessions_are_low;
 use history::WaitOn;
 use pg_values::{Refusal, SessionSet};
-use statement_steps::{Caller, SessionNames, Stop, wait_for};
-use std::alloc::Global;
+use statement_steps::{Attempt, Stop, wait_for};
 use stores::Stores;
 
 /// A part: what was judged refuses the statement, or it waits until the snapshots of those sessions have gone,
 /// and then begins anew.
 pub fn wait_for_snapshots(
-    alloc: Global,
+    attempt: &Attempt<'_>,
     stores: &mut Stores,
-    names: &SessionNames,
-    caller: Caller,
     judged: Result<SessionSet, Refusal>,
 ) -> Result<(), Stop>
-    requires may { MayAttempt stores.old caller }
-    requires others { IfOk judged (λ set. has set caller.session ≡ false) }
-    ensures step { (rows : History → List Scan) → ((h : History) → Stands stores.old h → IsAnswer judged (scans.judged h caller.session (rows h)))
-        → IsStep (λ u. u) result stores.old stores.new caller caller.cmd (scanned names.now caller.session rows) }
+    requires may { MayAttempt stores.old attempt.now.caller }
+    requires others { IfOk judged (λ set. has set attempt.now.caller.session ≡ false) }
+    ensures step { (rows : History → List Scan) → ((h : History) → Stands stores.old h → IsAnswer judged (scans.judged h attempt.now.caller.session (rows h)))
+        → IsStep (λ u. u) result stores.old stores.new attempt.now.caller attempt.now.caller.cmd (scanned attempt.now.names.now attempt.now.caller.session rows) }
     ensures none { IfOk result (λ u. (set : SetOfSessions) × (judged ≡ Ok set) × ((r : ℕ) → has set r ≡ false)) }
     ensures rest { stores.new ≡ record stores.old { locks = stores.new.locks } }
 {
     let others = judged?;
     sessions_are_low(others);
     let what = WaitOn::Snapshots(others);
-    wait_for(alloc, stores, names, caller, what, None)
+    wait_for(attempt, stores, what, None)
 }

@@ -60,11 +60,11 @@ routed_here h s t look leaf row shape =
 -- ---- one row
 
 -- where nothing stands against it, the bounds do not
-only_faults : (tables : List Table) (target : Target) (row : List Value) → target.is_named ≡ true → leaf_faults tables (Some target) row ≡ [] → bounds_faults tables target.path.items row ≡ []
+only_faults : (tables : List Table) (target : Target) (row : List Value) → target.is_named ≡ true → leaf_faults tables (Some target) row ≡ [] → bounds_faults tables target.path row ≡ []
 only_faults tables target row named none =
     let behind = nothing_behind (own_null_faults tables target.table row) _ none in
-    let last = nothing_behind (check_faults tables target.path.items row) _ behind in
-    subst (λ n. (if n then bounds_faults tables target.path.items row else []) ≡ []) named last
+    let last = nothing_behind (check_faults tables target.path row) _ behind in
+    subst (λ n. (if n then bounds_faults tables target.path row else []) ≡ []) named last
 
 -- what is known of the table in the history
 record Known (h : History) (s t : ℕ) (leaf : LeafId) : Type 0 where
@@ -78,10 +78,10 @@ one_goes h s t look leaf target row is known of none =
     let faults : leaf_faults (tables_of h) (Some target) row ≡ [] = ap (λ o. leaf_faults (tables_of h) o row) (sym (own_found leaf target is.leaf_is)) ∙ none in
     record {
       columns = of.1;
-      placed = subst (λ p. refused Bounds row p ≡ None) is.path (none_refuses (tables_of h) row target.path.items (only_faults (tables_of h) target row is.is_named faults));
+      placed = subst (λ p. refused Bounds row p ≡ None) is.path (none_refuses (tables_of h) row target.path (only_faults (tables_of h) target row is.is_named faults));
       routed = routed_here h s t.number look leaf row known.mine.1;
       passes = λ x own. subst (λ n. refused Checks row (path_of h s n) ≡ None) (known.one_home t.number x leaf known.mine own)
-          (subst (λ p. refused Checks row p ≡ None) is.path (taken_passes (tables_of h) target.table target.path.items target.is_named row faults));
+          (subst (λ p. refused Checks row p ≡ None) is.path (taken_passes (tables_of h) target.table target.path target.is_named row faults));
       locked = λ x own. subst (IsWritable h s) (known.one_home t.number x leaf known.mine own) known.writable;
       there = known.there;
     }
@@ -137,10 +137,10 @@ own_may_store stores caller t leaf target rows may it =
     let same = tables_kept stores.catalog h stands.all.catalog in
     let is = it.target_is h stands.all in
     let has = own_leaf stores s t leaf target rows h stands it in
-    let path : All (IsPartNumbered n) target.path.items = subst (λ pa. All (IsPartNumbered n) pa) (sym is.path) (subst (λ k. All (IsPartNumbered k) (path_of h s t.number)) (sym same) (paths_are_made h s t sound has.0)) in
+    let path : All (IsPartNumbered n) target.path = subst (λ pa. All (IsPartNumbered n) pa) (sym is.path) (subst (λ k. All (IsPartNumbered k) (path_of h s t.number)) (sym same) (paths_are_made h s t sound has.0)) in
     record {
-      fits = λ i d lt. All-cons (λ (x : Target). All (PartFits (slice_index_or rows i d)) x.path.items) target []
-          (subst (λ pa. All (PartFits (slice_index_or rows i d)) pa) (sym is.path) (paths_fit h s t (slice_index_or rows i d) sound siblings (it.rows_of h stands.all.catalog i d lt))) (All-nil (λ (x : Target). All (PartFits (slice_index_or rows i d)) x.path.items));
+      fits = λ i d lt. All-cons (λ (x : Target). All (PartFits (slice_index_or rows i d)) x.path) target []
+          (subst (λ pa. All (PartFits (slice_index_or rows i d)) pa) (sym is.path) (paths_fit h s t (slice_index_or rows i d) sound siblings (it.rows_of h stands.all.catalog i d lt))) (All-nil (λ (x : Target). All (PartFits (slice_index_or rows i d)) x.path));
       numbered = All-cons (IsTargetNumbered n) target [] (subst (λ (x : TableNo). x.number < n) (sym is.table) it.known, path) (All-nil (IsTargetNumbered n));
       told = same_all (HasTarget (target ∷ [])) leaf rows (own_has leaf target is.leaf_is);
       known = same_all (IsLeafKnown stores.rows.leaves) leaf rows (subst (λ k. leaf.number < k) (sym stands.all.rows.leaves) (leaves_are_housed h t.number leaf stands.good has));

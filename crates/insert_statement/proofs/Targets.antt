@@ -40,10 +40,10 @@ same_born by cmd f g (l ∷ ls) (r ∷ rs) h same =
     ∙ next_born (born by cmd (g l r) l r h).told (born by cmd (g l r) l r h).events h (all_born by cmd f ls rs) (all_born by cmd g ls rs) (λ k. same_born by cmd f g ls rs k same.1)
 
 -- what is told by a target is told by its table
-told_by : (tables : List Table) (h : History) (s : ℕ) (t : TableNo) (named : Bool) (target : Target) (row : List Value) → target.table ≡ t → target.path.items ≡ path_of h s t.number → target.is_named ≡ named
+told_by : (tables : List Table) (h : History) (s : ℕ) (t : TableNo) (named : Bool) (target : Target) (row : List Value) → target.table ≡ t → target.path ≡ path_of h s t.number → target.is_named ≡ named
     → leaf_faults tables (Some target) row ≡ table_faults tables t (path_of h s t.number) named row
 told_by tables h s t named target row table path is =
-    ap (λ n. table_faults tables target.table target.path.items n row) is
+    ap (λ n. table_faults tables target.table target.path n row) is
     ∙ (ap (λ p. table_faults tables target.table p named row) path ∙ ap (λ x. table_faults tables x (path_of h s t.number) named row) table)
 
 -- ---- the one target of a table that is named

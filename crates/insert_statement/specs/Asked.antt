@@ -95,5 +95,5 @@ pub record MayStore (stores : Stores) (session : ℕ) (targets : List Target) (l
 pub record IsOwnTarget (h : History) (s : ℕ) (t : TableNo) (leaf : LeafId) (target : Target) : Type 0 where
   pub leaf_is : target.leaf ≡ leaf
   pub table : target.table ≡ t
-  pub path : target.path.items ≡ path_of h s t.number
+  pub path : target.path ≡ path_of h s t.number
   pub is_named : target.is_named ≡ true

@@ -14,9 +14,9 @@ ghost use Rattle.row_change.specs.Laws.{AreRowsOf};
 ghost use Rattle.statement_steps.specs.Rights.{MayWrite};
 
 use crate::storing::put_rows;
-use pg_values::{LeafId, NoMemory, Row, TableNo};
+use pg_values::{LeafId, ListOf, NoMemory, Row, TableNo};
 use row_change::{LeafList, Target};
-use statement_steps::{Caller, Stop};
+use statement_steps::{Attempt, Stop};
 use std::alloc::Global;
 use std::slice::from_ref;
 use stores::Stores;
@@ -33,48 +33,40 @@ fn same_leaf(alloc: Global, leaf: LeafId, rows: &[Row]) -> Result<LeafList, NoMe
 }
 
 fn target_of(
-    alloc: Global,
+    attempt: &Attempt<'_>,
     stores: &Stores,
-    caller: Caller,
     table: TableNo,
     leaf: LeafId,
 ) -> Result<Target, NoMemory>
     requires sound { IsSound stores.now }
     requires known { table.number < length stores.now.catalog.tables }
-    ensures { IfOk result (λ target. (h : History) → AllStand stores.now h → IsOwnTarget h caller.session table leaf target) }
+    ensures { IfOk result (λ target. (h : History) → AllStand stores.now h → IsOwnTarget h attempt.now.caller.session table leaf target) }
 {
+    let path = stores.path(attempt.alloc, table, attempt.caller.session)?;
     Ok(Target {
         leaf,
         table,
-        path: stores.path(alloc, table, caller.session)?,
+        path: ListOf::from_vec(path),
         is_named: true,
     })
 }
 
 /// Stores the rows in the leaf of the table, each after the tests of the table and of those above it.
 pub(crate) fn store_in_leaf(
-    alloc: Global,
+    attempt: &Attempt<'_>,
     stores: &mut Stores,
-    caller: Caller,
     table: TableNo,
     leaf: LeafId,
     rows: Vec<Row>,
 ) -> Result<(), Stop>
-    requires may { MayAttempt stores.old caller }
+    requires may { MayAttempt stores.old attempt.now.caller }
     requires known { table.number < length stores.old.catalog.tables }
     requires leaf { (h : History) → CatalogueStands stores.old.catalog h → (made_at h table.number).shape ≡ Leaf leaf }
     requires rows { AreRowsOf stores.old.catalog table rows.items }
-    requires locked { MayWrite stores.old caller.session (table ∷ []) }
-    ensures { IsStep (λ u. u) result stores.old stores.new caller (caller.cmd + 1) (into_leaf caller table.number leaf rows.items) }
+    requires locked { MayWrite stores.old attempt.now.caller.session (table ∷ []) }
+    ensures { IsStep (λ u. u) result stores.old stores.new attempt.now.caller (attempt.now.caller.cmd + 1) (into_leaf attempt.now.caller table.number leaf rows.items) }
 {
-    let target = target_of(alloc, stores, caller, table, leaf)?;
-    let leaves = same_leaf(alloc, leaf, &rows)?;
-    put_rows(
-        alloc,
-        stores,
-        caller,
-        from_ref(&target),
-        leaves.as_slice(),
-        rows,
-    )
+    let target = target_of(attempt, stores, table, leaf)?;
+    let leaves = same_leaf(attempt.alloc, leaf, &rows)?;
+    put_rows(attempt, stores, from_ref(&target), leaves.as_slice(), rows)
 }

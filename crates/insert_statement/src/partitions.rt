@@ -20,86 +20,77 @@ use crate::storing::put_rows;
 use pg_values::{LeafId, LockMode, NoMemory, Row, TableNo};
 use row_change::{leaf_targets, leaves_and_ways};
 use row_router::Tree;
-use statement_steps::{Caller, SessionNames, Stop, lock_tables, tree_and_path};
-use std::alloc::Global;
+use statement_steps::{Attempt, Stop, lock_tables, tree_and_path};
 use stores::{Stores, trees_are_together};
 
 // Each row into the leaf where it was placed; the tables on the ways are locked.
 fn store_in_leaves(
-    alloc: Global,
+    attempt: &Attempt<'_>,
     stores: &mut Stores,
-    caller: Caller,
     tree: &Tree,
     leaves: &[LeafId],
     rows: Vec<Row>,
 ) -> Result<(), Stop>
-    requires may { MayAttempt stores.old caller }
-    requires placed { ArePlaced stores.old.txs stores.old.catalog caller (seen tree.now) leaves.now rows.items }
-    requires locked { MayWrite stores.old caller.session (ways_below (seen tree.now) rows.items) }
-    ensures { IsStep (λ u. u) result stores.old stores.new caller (caller.cmd + 1) (inserted.into_leaves caller (seen tree.now) leaves.now rows.items) }
+    requires may { MayAttempt stores.old attempt.now.caller }
+    requires placed { ArePlaced stores.old.txs stores.old.catalog attempt.now.caller (seen tree.now) leaves.now rows.items }
+    requires locked { MayWrite stores.old attempt.now.caller.session (ways_below (seen tree.now) rows.items) }
+    ensures { IsStep (λ u. u) result stores.old stores.new attempt.now.caller (attempt.now.caller.cmd + 1) (inserted.into_leaves attempt.now.caller (seen tree.now) leaves.now rows.items) }
 {
+    let session = attempt.caller.session;
     trees_are_together();
     let Stores { txs, catalog, .. } = &*stores;
-    let targets = leaf_targets(alloc, catalog, txs, caller.session, tree, leaves)?;
-    put_rows(alloc, stores, caller, &targets, leaves, rows)
+    let targets = leaf_targets(attempt.alloc, catalog, txs, session, tree, leaves)?;
+    put_rows(attempt, stores, &targets, leaves, rows)
 }
 
 // The rows are placed below a partitioned table, by the tree that the session's command reads; the tables on
 // their ways are locked, and the rows are stored.
 fn store_by_tree(
-    alloc: Global,
+    attempt: &Attempt<'_>,
     stores: &mut Stores,
-    names: &SessionNames,
-    caller: Caller,
     table: TableNo,
     rows: Vec<Row>,
 ) -> Result<(), Stop>
-    requires may { MayAttempt stores.old caller }
-    requires there { IsKnownTo stores.old caller.session table.number }
+    requires may { MayAttempt stores.old attempt.now.caller }
+    requires there { IsKnownTo stores.old attempt.now.caller.session table.number }
     requires few { length stores.old.catalog.tables ≤ 4096 }
     requires level { (h : History) → CatalogueStands stores.old.catalog h → (level : OneLevel) × ((made_at h table.number).shape ≡ Level level) }
     requires rows { AreRowsOf stores.old.catalog table rows.items }
-    ensures { IsStep (λ u. u) result stores.old stores.new caller (caller.cmd + 1) (inserted.into_partitions names.now caller table.number rows.items) }
+    ensures { IsStep (λ u. u) result stores.old stores.new attempt.now.caller (attempt.now.caller.cmd + 1) (inserted.into_partitions attempt.now.names.now attempt.now.caller table.number rows.items) }
 {
-    let (tree, path) = tree_and_path(alloc, stores, caller, table)?;
+    let alloc = attempt.alloc;
+    let (tree, path) = tree_and_path(attempt, stores, table)?;
     let mut ways = Vec::new(alloc);
     let leaves = leaves_and_ways(alloc, &stores.catalog, &tree, &path, &rows, &mut ways)?;
-    lock_tables(alloc, stores, names, caller, &ways, LockMode::RowExclusive)?;
-    store_in_leaves(alloc, stores, caller, &tree, leaves.as_slice(), rows)
+    lock_tables(attempt, stores, &ways, LockMode::RowExclusive)?;
+    store_in_leaves(attempt, stores, &tree, leaves.as_slice(), rows)
 }
 
 // The tree that the session's command reads of a table is kept for the statements that come.
-fn keep_tree(
-    alloc: Global,
-    stores: &mut Stores,
-    caller: Caller,
-    table: TableNo,
-) -> Result<(), NoMemory>
-    requires may { MayAttempt stores.old caller }
+fn keep_tree(attempt: &Attempt<'_>, stores: &mut Stores, table: TableNo) -> Result<(), NoMemory>
+    requires may { MayAttempt stores.old attempt.now.caller }
     requires known { table.number < length stores.old.catalog.tables }
     ensures { stores.new ≡ stores.old }
 {
-    let snap = stores.look(alloc, caller.session, caller.cmd)?;
-    stores.keep_tree(table, caller.session, &snap)?;
+    let snap = stores.look(attempt.alloc, attempt.caller.session, attempt.caller.cmd)?;
+    stores.keep_tree(table, attempt.caller.session, &snap)?;
     Ok(())
 }
 
 /// The rows are placed below a partitioned table and stored, by a tree that is kept.
 pub(crate) fn store_below(
-    alloc: Global,
+    attempt: &Attempt<'_>,
     stores: &mut Stores,
-    names: &SessionNames,
-    caller: Caller,
     table: TableNo,
     rows: Vec<Row>,
 ) -> Result<(), Stop>
-    requires may { MayAttempt stores.old caller }
-    requires there { IsKnownTo stores.old caller.session table.number }
+    requires may { MayAttempt stores.old attempt.now.caller }
+    requires there { IsKnownTo stores.old attempt.now.caller.session table.number }
     requires few { length stores.old.catalog.tables ≤ 4096 }
     requires level { (h : History) → CatalogueStands stores.old.catalog h → (level : OneLevel) × ((made_at h table.number).shape ≡ Level level) }
     requires rows { AreRowsOf stores.old.catalog table rows.items }
-    ensures { IsStep (λ u. u) result stores.old stores.new caller (caller.cmd + 1) (inserted.into_partitions names.now caller table.number rows.items) }
+    ensures { IsStep (λ u. u) result stores.old stores.new attempt.now.caller (attempt.now.caller.cmd + 1) (inserted.into_partitions attempt.now.names.now attempt.now.caller table.number rows.items) }
 {
-    keep_tree(alloc, stores, caller, table)?;
-    store_by_tree(alloc, stores, names, caller, table, rows)
+    keep_tree(attempt, stores, table)?;
+    store_by_tree(attempt, stores, table, rows)
 }

@@ -10,33 +10,30 @@ ghost use Rattle.insert_statement.specs.Inserted as inserted;
 ghost use Rattle.row_change.specs.Laws.{AreRowsOf};
 
 use binding_laws::inserts_fit;
-use cond_logic::InsertAsk;
 use expression_binder::Param;
 use history::Column;
 use pg_values::{NoMemory, Refusal, Row, TableNo};
 use row_change::full_row;
 use sql_ast::Insert;
-use sql_binder::bind_insert;
-use statement_steps::{Caller, Stop, scope_columns};
+use sql_binder::{InsertValues, bind_insert_values};
+use statement_steps::{Attempt, Stop, scope_columns};
 use std::alloc::Global;
 use stores::Stores;
 
-fn add_row(rows: &mut Vec<Row>, row: Row) -> Result<(), NoMemory>
-    ensures { OnOk result (rows.new.items ≡ rows.old.items ++ row ∷ []) }
+fn whole_rows(
+    alloc: Global,
+    width: usize,
+    named: &[usize],
+    rows: Vec<Row>,
+) -> Result<Vec<Row>, NoMemory>
+    ensures { IfOk result (λ whole. whole.items ≡ map (full_rows.full_row width named.now) rows.items) }
 {
-    rows.push(row)?;
-    Ok(())
-}
-
-fn whole_rows(alloc: Global, width: usize, ask: &InsertAsk) -> Result<Vec<Row>, NoMemory>
-    ensures { IfOk result (λ rows. rows.items ≡ map (full_rows.full_row width ask.now.columns) ask.now.rows) }
-{
-    let mut rows = Vec::new(alloc);
-    for values in ask.rows.as_slice() {
-        let row = full_row(alloc, width, ask.columns.as_slice(), values)?;
-        add_row(&mut rows, row)?;
+    let mut whole = Vec::with_capacity(alloc, rows.len())?;
+    for values in rows {
+        let row = full_row(alloc, width, named, values)?;
+        whole.push(row)?;
     }
-    Ok(rows)
+    Ok(whole)
 }
 
 // The rows of a table with the columns, or the first fault of the statement.
@@ -50,26 +47,29 @@ fn rows_for(
     ensures { IsAnswerBy (λ rows. rows.items) result (inserted.whole_rows columns.now params.now session statement.now.columns (map trees statement.now.rows)) }
 {
     let named = scope_columns(alloc, columns)?;
-    let ask = bind_insert(alloc, statement, &named, params, session)?;
-    Ok(whole_rows(alloc, columns.len(), &ask)?)
+    let InsertValues {
+        columns: places,
+        rows,
+    } = bind_insert_values(alloc, statement, &named, params, session)?;
+    Ok(whole_rows(alloc, columns.len(), places.as_slice(), rows.into_vec())?)
 }
 
 /// The rows of the table that an INSERT gives, or its first fault.
 pub(crate) fn rows_meant(
-    alloc: Global,
+    attempt: &Attempt<'_>,
     stores: &Stores,
     params: &[Param],
-    caller: Caller,
     table: TableNo,
     statement: &Insert,
 ) -> Result<Vec<Row>, Stop>
-    requires may { MayAttempt stores.now caller }
+    requires may { MayAttempt stores.now attempt.now.caller }
     requires known { table.number < length stores.now.catalog.tables }
-    ensures step { IsStep (λ rows. rows.items) result stores.now stores.now caller caller.cmd (inserted.rows_meant params.now caller.session table.number statement.now.columns (map trees statement.now.rows)) }
+    ensures step { IsStep (λ rows. rows.items) result stores.now stores.now attempt.now.caller attempt.now.caller.cmd (inserted.rows_meant params.now attempt.now.caller.session table.number statement.now.columns (map trees statement.now.rows)) }
     ensures of { IfOk result (λ rows. AreRowsOf stores.now.catalog table rows.items) }
 {
+    let session = attempt.caller.session;
     inserts_fit();
     let columns = stores.catalog.table(table).columns.as_slice();
-    let rows = rows_for(alloc, columns, params, caller.session, statement)?;
+    let rows = rows_for(attempt.alloc, columns, params, session, statement)?;
     Ok(rows)
 }

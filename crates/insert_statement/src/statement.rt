@@ -21,8 +21,7 @@ use history::TableShape;
 use part_catalog::Catalog;
 use pg_values::{LeafId, LockMode, Row, TableNo};
 use sql_ast::Insert;
-use statement_steps::{Caller, SessionNames, Stop, hold_if_repeatable, lock_named};
-use std::alloc::Global;
+use statement_steps::{Attempt, Stop, hold_if_repeatable, lock_named};
 use stores::Stores;
 
 // The leaf of a table that holds rows itself.
@@ -39,23 +38,21 @@ fn leaf_of(catalog: &Catalog, table: TableNo) -> Option<LeafId>
 
 // The rows go into the table, which is locked.
 fn store_into(
-    alloc: Global,
+    attempt: &Attempt<'_>,
     stores: &mut Stores,
-    names: &SessionNames,
-    caller: Caller,
     table: TableNo,
     rows: Vec<Row>,
 ) -> Result<(), Stop>
-    requires may { MayAttempt stores.old caller }
-    requires there { IsKnownTo stores.old caller.session table.number }
+    requires may { MayAttempt stores.old attempt.now.caller }
+    requires there { IsKnownTo stores.old attempt.now.caller.session table.number }
     requires few { length stores.old.catalog.tables ≤ 4096 }
     requires rows { AreRowsOf stores.old.catalog table rows.items }
-    requires locked { MayWrite stores.old caller.session (table ∷ []) }
-    ensures { IsStep (λ u. u) result stores.old stores.new caller (caller.cmd + 1) (inserted_spec.into names.now caller table.number rows.items) }
+    requires locked { MayWrite stores.old attempt.now.caller.session (table ∷ []) }
+    ensures { IsStep (λ u. u) result stores.old stores.new attempt.now.caller (attempt.now.caller.cmd + 1) (inserted_spec.into attempt.now.names.now attempt.now.caller table.number rows.items) }
 {
     match leaf_of(&stores.catalog, table) {
-        Some(leaf) => store_in_leaf(alloc, stores, caller, table, leaf, rows),
-        None => store_below(alloc, stores, names, caller, table, rows),
+        Some(leaf) => store_in_leaf(attempt, stores, table, leaf, rows),
+        None => store_below(attempt, stores, table, rows),
     }
 }
 
@@ -64,20 +61,18 @@ fn store_into(
 /// table each row is placed (23514), the tables on the ways of the rows are locked in the same mode, and
 /// the rows are stored (23502, 23514, 54000).
 pub fn insert(
-    alloc: Global,
+    attempt: &Attempt<'_>,
     stores: &mut Stores,
-    names: &SessionNames,
     params: &[Param],
-    caller: Caller,
     statement: &Insert,
 ) -> Result<(), Stop>
-    requires may { MayAttempt stores.old caller }
+    requires may { MayAttempt stores.old attempt.now.caller }
     requires few { length stores.old.catalog.tables ≤ 4096 }
-    ensures { IsStep (λ u. u) result stores.old stores.new caller (caller.cmd + 1) (inserted names.now params.now caller statement.now.table statement.now.columns (map trees statement.now.rows)) }
+    ensures { IsStep (λ u. u) result stores.old stores.new attempt.now.caller (attempt.now.caller.cmd + 1) (inserted attempt.now.names.now params.now attempt.now.caller statement.now.table statement.now.columns (map trees statement.now.rows)) }
 {
-    hold_if_repeatable(alloc, stores, caller)?;
+    hold_if_repeatable(attempt, stores)?;
     let name = statement.table.as_bytes();
-    let table = lock_named(alloc, stores, names, caller, name, LockMode::RowExclusive)?;
-    let rows = rows_meant(alloc, stores, params, caller, table, statement)?;
-    store_into(alloc, stores, names, caller, table, rows)
+    let table = lock_named(attempt, stores, name, LockMode::RowExclusive)?;
+    let rows = rows_meant(attempt, stores, params, table, statement)?;
+    store_into(attempt, stores, table, rows)
 }

@@ -25,7 +25,7 @@ pub record Found : Type 0 where
   pub trees : List TableTree
 
 abbrev pub found_by : Gathered → Found
-found_by g = record { meant = select_meant g.ask; trees = map seen g.trees.items }
+found_by g = record { meant = select_meant g.ask; trees = map seen g.trees }
 
 abbrev pub found_over : Planning → List Param → Caller → SelectTree → List TableTree → History → Made Found
 found_over how params c t trees = follow (meant how params c t (items_of 0 (from_of t) trees)) (λ m h. made [] (record { meant = m; trees = trees }))

@@ -29,7 +29,7 @@ use plan_tree::{Plan, PlanCounts, Planning};
 use row_router::Tree;
 use select_answer::one_item_is_read_once;
 use sql_ast::{FromItem, Select};
-use statement_steps::{Caller, SessionNames, Stop, hold_if_repeatable};
+use statement_steps::{Attempt, Stop, hold_if_repeatable};
 use std::alloc::Global;
 use stores::Stores;
 
@@ -113,34 +113,32 @@ pub(crate) fn plan_table(
     plan: &Plan<'_>,
     counts: Option<&PlanCounts>,
 ) -> Result<Answer, NoMemory>
-    requires each { length found.now.trees.items ≡ length (from_of (select_tree select.now)) }
+    requires each { length found.now.trees ≡ length (from_of (select_tree select.now)) }
     requires few { length (planned plan.now).items ≤ 4 }
     ensures { IfOk result (λ a. a ≡ explained.told (select_tree select.now) (found_by found.now) (lent counts.entry) (planned plan.now)) }
 {
-    let named = named_items(alloc, select.from.as_slice(), &found.trees)?;
+    let named = named_items(alloc, select.from.as_slice(), found.trees.as_slice())?;
     let is_cut = is_cut(select, &found.ask);
     write_plan(alloc, &named, counts, is_cut, &found.ask, plan)
 }
 
 // The plan is printed, and not run.
 fn explain_plan(
-    alloc: Global,
+    attempt: &Attempt<'_>,
     stores: &mut Stores,
-    names: &SessionNames,
     params: &[Param],
-    caller: Caller,
     how: Planning,
     select: &Select,
 ) -> Result<Answer, Stop>
-    requires may { MayAttempt stores.old caller }
+    requires may { MayAttempt stores.old attempt.now.caller }
     requires few { length stores.old.catalog.tables ≤ 4096 }
-    ensures { IsStep (λ a. a) result stores.old stores.new caller (caller.cmd + 1) (explained.explained how names.now params.now caller (select_tree select.now)) }
+    ensures { IsStep (λ a. a) result stores.old stores.new attempt.now.caller (attempt.now.caller.cmd + 1) (explained.explained how attempt.now.names.now params.now attempt.now.caller (select_tree select.now)) }
 {
-    hold_if_repeatable(alloc, stores, caller)?;
-    let found = gather(alloc, stores, names, how, params, caller, select)?;
-    let args = values_by(alloc, how, params)?;
-    let plan = plan_under(alloc, stores, names, caller, how, &args, &found)?;
-    let table = plan_table(alloc, select, &found, &plan, None)?;
+    hold_if_repeatable(attempt, stores)?;
+    let found = gather(attempt, stores, how, params, select)?;
+    let args = values_by(attempt.alloc, how, params)?;
+    let plan = plan_under(attempt, stores, how, &args, &found)?;
+    let table = plan_table(attempt.alloc, select, &found, &plan, None)?;
     Ok(table)
 }
 
@@ -148,22 +146,20 @@ fn explain_plan(
 /// the SELECT locks, and is refused where that is refused before it reads. With ANALYZE it runs the SELECT, and each node
 /// of the plan tells what it gave; else it reads nothing.
 pub fn explain(
-    alloc: Global,
+    attempt: &Attempt<'_>,
     stores: &mut Stores,
-    names: &SessionNames,
     params: &[Param],
-    caller: Caller,
     how: Planning,
     analyze: bool,
     select: &Select,
 ) -> Result<Answer, Stop>
-    requires may { MayAttempt stores.old caller }
+    requires may { MayAttempt stores.old attempt.now.caller }
     requires few { length stores.old.catalog.tables ≤ 4096 }
-    ensures { IsStep (λ a. a) result stores.old stores.new caller (caller.cmd + 1) (explained.explains analyze how names.now params.now caller (select_tree select.now)) }
+    ensures { IsStep (λ a. a) result stores.old stores.new attempt.now.caller (attempt.now.caller.cmd + 1) (explained.explains analyze how attempt.now.names.now params.now attempt.now.caller (select_tree select.now)) }
 {
     if analyze {
-        analyze_select(alloc, stores, names, params, caller, how, select)
+        analyze_select(attempt, stores, params, how, select)
     } else {
-        explain_plan(alloc, stores, names, params, caller, how, select)
+        explain_plan(attempt, stores, params, how, select)
     }
 }

@@ -1,4 +1,5 @@
 use cond_logic::SelectAsk;
+use pg_values::ListOf;
 use row_router::Tree;
 use tx_table::Snapshot;
 
@@ -7,6 +8,6 @@ use tx_table::Snapshot;
 #[derive(Drop)]
 pub struct Gathered {
     pub ask: SelectAsk,
-    pub trees: Vec<Tree>,
+    pub trees: ListOf<Tree>,
     pub snap: Snapshot,
 }

@@ -24,7 +24,7 @@ use row_store::Trail;
 use select_answer::run_select;
 use sql_ast::Select;
 use sql_binder::{bind_select, put_values, values_of};
-use statement_steps::{Caller, SessionNames, Stop, lock_tables};
+use statement_steps::{Attempt, Stop, lock_tables};
 use std::alloc::Global;
 use stores::Stores;
 use tx_table::Snapshot;
@@ -64,18 +64,18 @@ fn bind_by(
 /// Names and kinds are bound and constants evaluated; for a custom plan the values of parameters are put in their
 /// places.
 pub(crate) fn bind(
-    alloc: Global,
+    attempt: &Attempt<'_>,
     stores: &Stores,
     how: Planning,
     params: &[Param],
-    caller: Caller,
     select: &Select,
     items: &[ScopeItem],
 ) -> Result<SelectAsk, Stop>
-    requires { MayAttempt stores.now caller }
-    ensures { IsStep select_meant result stores.now stores.now caller caller.cmd (selected.meant how params.now caller (select_tree select.now) items.now) }
+    requires { MayAttempt stores.now attempt.now.caller }
+    ensures { IsStep select_meant result stores.now stores.now attempt.now.caller attempt.now.caller.cmd (selected.meant how params.now attempt.now.caller (select_tree select.now) items.now) }
 {
-    let ask = bind_by(alloc, how, select, items, params, caller.session)?;
+    let session = attempt.caller.session;
+    let ask = bind_by(attempt.alloc, how, select, items, params, session)?;
     Ok(ask)
 }
 
@@ -92,40 +92,38 @@ pub(crate) fn values_by(
 
 /// The tables are locked, one after the other.
 pub(crate) fn lock_below(
-    alloc: Global,
+    attempt: &Attempt<'_>,
     stores: &mut Stores,
-    names: &SessionNames,
-    caller: Caller,
     tables: &[TableNo],
 ) -> Result<(), Stop>
-    requires may { MayAttempt stores.old caller }
-    requires locks { All (MayLock stores.old caller) tables.now }
-    ensures step { IsStep (λ u. u) result stores.old stores.new caller caller.cmd (selected.locked_below names.now caller tables.now) }
+    requires may { MayAttempt stores.old attempt.now.caller }
+    requires locks { All (MayLock stores.old attempt.now.caller) tables.now }
+    ensures step { IsStep (λ u. u) result stores.old stores.new attempt.now.caller attempt.now.caller.cmd (selected.locked_below attempt.now.names.now attempt.now.caller tables.now) }
     ensures rest { stores.new ≡ record stores.old { locks = stores.new.locks } }
 {
-    lock_tables(alloc, stores, names, caller, tables, LockMode::AccessShare)
+    lock_tables(attempt, stores, tables, LockMode::AccessShare)
 }
 
 /// The answer by the plan, with these values of parameters, for the rows that the snapshot shows; and what happens at the
 /// nodes of the plan is counted.
 pub(crate) fn answer_counted(
-    alloc: Global,
+    attempt: &Attempt<'_>,
     stores: &Stores,
-    caller: Caller,
     args: &[Value],
     ask: &SelectAsk,
     plan: &Plan<'_>,
     snap: &Snapshot,
     counts: &mut PlanCounts,
 ) -> Result<Answered, Stop>
-    requires may { MayAttempt stores.now caller }
+    requires may { MayAttempt stores.now attempt.now.caller }
     requires reads { All (CanRead stores.now.rows.leaves) (all_items (planned plan.now)) }
-    requires look { IsLookFor stores.now caller snap.now }
-    ensures step { IsStep selected.told_by result stores.now stores.now caller (caller.cmd + 1) (selected.answered caller args.now (select_meant ask.now) (planned plan.now)) }
+    requires look { IsLookFor stores.now attempt.now.caller snap.now }
+    ensures step { IsStep selected.told_by result stores.now stores.now attempt.now.caller (attempt.now.caller.cmd + 1) (selected.answered attempt.now.caller args.now (select_meant ask.now) (planned plan.now)) }
     ensures counts { (h : History) → Stands stores.now h → IfOk result (λ a. counts.new ≡ answered_with (length a.answer.rows)
-        (counted counts.old (happenings args.now (shown h (look_of h caller.session caller.cmd)) (planned plan.now)))) }
+        (counted counts.old (happenings args.now (shown h (look_of h attempt.now.caller.session attempt.now.caller.cmd)) (planned plan.now)))) }
 {
-    let sessions = caller.sessions - 1;
+    let alloc = attempt.alloc;
+    let sessions = attempt.caller.sessions - 1;
     let Stores { txs, rows, .. } = stores;
     let mut trail = Trail::new(alloc)?;
     let answer = run_select(
@@ -136,19 +134,18 @@ pub(crate) fn answer_counted(
 
 /// The answer by the plan, with these values of parameters, for the rows that the snapshot shows.
 pub(crate) fn answer(
-    alloc: Global,
+    attempt: &Attempt<'_>,
     stores: &Stores,
-    caller: Caller,
     args: &[Value],
     ask: &SelectAsk,
     plan: &Plan<'_>,
     snap: &Snapshot,
 ) -> Result<Answered, Stop>
-    requires may { MayAttempt stores.now caller }
+    requires may { MayAttempt stores.now attempt.now.caller }
     requires reads { All (CanRead stores.now.rows.leaves) (all_items (planned plan.now)) }
-    requires look { IsLookFor stores.now caller snap.now }
-    ensures { IsStep selected.told_by result stores.now stores.now caller (caller.cmd + 1) (selected.answered caller args.now (select_meant ask.now) (planned plan.now)) }
+    requires look { IsLookFor stores.now attempt.now.caller snap.now }
+    ensures { IsStep selected.told_by result stores.now stores.now attempt.now.caller (attempt.now.caller.cmd + 1) (selected.answered attempt.now.caller args.now (select_meant ask.now) (planned plan.now)) }
 {
-    let mut counts = PlanCounts::none(alloc);
-    answer_counted(alloc, stores, caller, args, ask, plan, snap, &mut counts)
+    let mut counts = PlanCounts::none(attempt.alloc);
+    answer_counted(attempt, stores, args, ask, plan, snap, &mut counts)
 }

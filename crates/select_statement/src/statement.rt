@@ -10,76 +10,71 @@ use crate::parts::{answer, values_by};
 use expression_binder::Param;
 use plan_tree::{Planning, make_plan};
 use sql_ast::Select;
-use statement_steps::{Caller, SessionNames, Stop, hold_if_repeatable};
-use std::alloc::Global;
+use statement_steps::{Attempt, Stop, hold_if_repeatable};
 use stores::Stores;
 
 // ---- without FROM
 
 fn select_bare(
-    alloc: Global,
+    attempt: &Attempt<'_>,
     stores: &mut Stores,
     params: &[Param],
-    caller: Caller,
     select: &Select,
 ) -> Result<Answered, Stop>
-    requires { MayAttempt stores.old caller }
-    ensures { IsStep selected.told_by result stores.old stores.new caller (caller.cmd + 1)
-        (follow (selected.begins caller) (λ u. selected.bare params.now caller (select_tree select.now))) }
+    requires { MayAttempt stores.old attempt.now.caller }
+    ensures { IsStep selected.told_by result stores.old stores.new attempt.now.caller (attempt.now.caller.cmd + 1)
+        (follow (selected.begins attempt.now.caller) (λ u. selected.bare params.now attempt.now.caller (select_tree select.now))) }
 {
-    hold_if_repeatable(alloc, stores, caller)?;
-    let found = gather_bare(alloc, stores, params, caller, select)?;
+    let alloc = attempt.alloc;
+    hold_if_repeatable(attempt, stores)?;
+    let found = gather_bare(attempt, stores, params, select)?;
     let plan = make_plan(
         alloc,
         Planning::without_from(),
         found.ask.conditions.as_slice(),
-        &found.trees,
+        found.trees.as_slice(),
     )?;
-    answer(alloc, stores, caller, &[], &found.ask, &plan, &found.snap)
+    answer(attempt, stores, &[], &found.ask, &plan, &found.snap)
 }
 
 // ---- of tables
 
 fn select_tables(
-    alloc: Global,
+    attempt: &Attempt<'_>,
     stores: &mut Stores,
-    names: &SessionNames,
     params: &[Param],
-    caller: Caller,
     how: Planning,
     select: &Select,
 ) -> Result<Answered, Stop>
-    requires may { MayAttempt stores.old caller }
+    requires may { MayAttempt stores.old attempt.now.caller }
     requires few { length stores.old.catalog.tables ≤ 4096 }
-    ensures { IsStep selected.told_by result stores.old stores.new caller (caller.cmd + 1)
-        (follow (selected.begins caller) (λ u. selected.of_named how names.now params.now caller (select_tree select.now))) }
+    ensures { IsStep selected.told_by result stores.old stores.new attempt.now.caller (attempt.now.caller.cmd + 1)
+        (follow (selected.begins attempt.now.caller) (λ u. selected.of_named how attempt.now.names.now params.now attempt.now.caller (select_tree select.now))) }
 {
-    hold_if_repeatable(alloc, stores, caller)?;
-    let found = gather(alloc, stores, names, how, params, caller, select)?;
-    let args = values_by(alloc, how, params)?;
-    let plan = plan_under(alloc, stores, names, caller, how, &args, &found)?;
-    answer(alloc, stores, caller, &args, &found.ask, &plan, &found.snap)
+    hold_if_repeatable(attempt, stores)?;
+    let found = gather(attempt, stores, how, params, select)?;
+    let args = values_by(attempt.alloc, how, params)?;
+    let plan = plan_under(attempt, stores, how, &args, &found)?;
+    answer(attempt, stores, &args, &found.ask, &plan, &found.snap)
 }
 
 /// A SELECT of a session, with the arguments of its parameters: its answer with the leaves that it has read, or why
 /// it stops. It locks and reads what its conditions keep, or all where the session prunes nothing. Where the plan is
 /// generic it locks what it keeps without the values of parameters, and reads what they keep of it.
 pub fn select(
-    alloc: Global,
+    attempt: &Attempt<'_>,
     stores: &mut Stores,
-    names: &SessionNames,
     params: &[Param],
-    caller: Caller,
     how: Planning,
     select: &Select,
 ) -> Result<Answered, Stop>
-    requires may { MayAttempt stores.old caller }
+    requires may { MayAttempt stores.old attempt.now.caller }
     requires few { length stores.old.catalog.tables ≤ 4096 }
-    ensures { IsStep selected.told_by result stores.old stores.new caller (caller.cmd + 1) (selected.selected how names.now params.now caller (select_tree select.now)) }
+    ensures { IsStep selected.told_by result stores.old stores.new attempt.now.caller (attempt.now.caller.cmd + 1) (selected.selected how attempt.now.names.now params.now attempt.now.caller (select_tree select.now)) }
 {
     if select.from.as_slice().is_empty() {
-        select_bare(alloc, stores, params, caller, select)
+        select_bare(attempt, stores, params, select)
     } else {
-        select_tables(alloc, stores, names, params, caller, how, select)
+        select_tables(attempt, stores, params, how, select)
     }
 }

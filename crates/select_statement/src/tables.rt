@@ -14,35 +14,32 @@ ghost use Rattle.statement_steps.specs.Below.{number_of};
 ghost use Rattle.select_statement.specs.Lent.{IsTreeFor, IsLookFor};
 ghost use Rattle.select_statement.specs.Selected as selected;
 
-use pg_values::{LockMode, NoMemory, TableNo};
+use pg_values::{ListOf, LockMode, NoMemory, TableNo};
 use plan_tree::trees_can_be_pruned;
 use row_router::Tree;
 use sql_ast::FromItem;
-use statement_steps::{Caller, SessionNames, Stop, lock_named};
-use std::alloc::Global;
+use statement_steps::{Attempt, Caller, Stop, lock_named};
 use stores::{Stores, leaves_are_housed};
 use tx_table::Snapshot;
 
 /// The tables of the items are found and locked in text order.
 pub(crate) fn lock_items(
-    alloc: Global,
+    attempt: &Attempt<'_>,
     stores: &mut Stores,
-    names: &SessionNames,
-    caller: Caller,
     items: &[FromItem],
 ) -> Result<Vec<TableNo>, Stop>
-    requires may { MayAttempt stores.old caller }
+    requires may { MayAttempt stores.old attempt.now.caller }
     requires few { length stores.old.catalog.tables ≤ 4096 }
-    ensures step { IsStep (λ ts. map number_of ts.items) result stores.old stores.new caller caller.cmd (selected.named_from names.now caller [] (map joined_tree items.now)) }
-    ensures known { IfOk result (λ ts. All (λ t. IsKnownTo stores.new caller.session t.number) ts.items) }
+    ensures step { IsStep (λ ts. map number_of ts.items) result stores.old stores.new attempt.now.caller attempt.now.caller.cmd (selected.named_from attempt.now.names.now attempt.now.caller [] (map joined_tree items.now)) }
+    ensures known { IfOk result (λ ts. All (λ t. IsKnownTo stores.new attempt.now.caller.session t.number) ts.items) }
     ensures count { IfOk result (λ ts. length ts.items ≡ length items.now) }
     ensures rest { stores.new ≡ record stores.old { locks = stores.new.locks } }
 {
-    let mut tables = Vec::new(alloc);
+    let mut tables = Vec::new(attempt.alloc);
     let mut left = items;
     while let Some((item, others)) = left.split_first() {
         let name = item.table.name.as_bytes();
-        let table = lock_named(alloc, stores, names, caller, name, LockMode::AccessShare)?;
+        let table = lock_named(attempt, stores, name, LockMode::AccessShare)?;
         tables.push(table)?;
         left = others;
     }
@@ -70,23 +67,22 @@ fn read_tree(
 
 /// The trees of the tables under the snapshot of the command, which are kept for the statements that come.
 pub(crate) fn read_trees(
-    alloc: Global,
+    attempt: &Attempt<'_>,
     stores: &mut Stores,
-    caller: Caller,
     tables: &[TableNo],
     snap: &Snapshot,
-) -> Result<Vec<Tree>, NoMemory>
-    requires may { MayAttempt stores.old caller }
+) -> Result<ListOf<Tree>, NoMemory>
+    requires may { MayAttempt stores.old attempt.now.caller }
     requires few { length stores.old.catalog.tables ≤ 4096 }
-    requires known { All (λ t. IsKnownTo stores.old caller.session t.number) tables.now }
-    requires look { IsLookFor stores.old caller snap.now }
-    ensures trees { IfOk result (λ trees. (h : History) → Stands stores.old h → map seen trees.items ≡ selected.trees_for caller (map number_of tables.now) h) }
-    ensures each { IfOk result (λ trees. All (λ t. IsTreeFor stores.old caller (seen t)) trees.items) }
+    requires known { All (λ t. IsKnownTo stores.old attempt.now.caller.session t.number) tables.now }
+    requires look { IsLookFor stores.old attempt.now.caller snap.now }
+    ensures trees { IfOk result (λ trees. (h : History) → Stands stores.old h → map seen trees ≡ selected.trees_for attempt.now.caller (map number_of tables.now) h) }
+    ensures each { IfOk result (λ trees. All (λ t. IsTreeFor stores.old attempt.now.caller (seen t)) trees) }
     ensures same { stores.new ≡ stores.old }
 {
-    let mut trees = Vec::new(alloc);
+    let mut trees = Vec::new(attempt.alloc);
     for table in tables {
-        trees.push(read_tree(stores, caller, *table, snap)?)?;
+        trees.push(read_tree(stores, attempt.caller, *table, snap)?)?;
     }
-    Ok(trees)
+    Ok(ListOf::from_vec(trees))
 }

@@ -1,8 +1,10 @@
-ghost use Rattle.std.specs.Prelude.{◌≡◌, Option, Result};
-ghost use Rattle.sql_ast.specs.Commands.{command_tree};
+ghost use Rattle.std.specs.Prelude.{◌≡◌, List, Option, Result};
+ghost use Rattle.sql_ast.specs.Commands.{attaches, bound_tree, command_tree, detaches};
 ghost use Rattle.sql_ast.specs.Queries.{query_tree};
 ghost use Rattle.sql_ast.specs.Statements.{statement_tree};
 ghost use Rattle.prepared_statements.specs.Kept.{listed};
+ghost use Rattle.prepared_statements.specs.Prepared.{Prepared};
+ghost use Rattle.statement_steps.specs.declared.rest.Rest.{Rest as OneRest};
 ghost use Rattle.statement_steps.specs.Attempts.{MayAttempt, MayGoOn};
 ghost use Rattle.statement_steps.specs.Ended.{ended};
 ghost use Rattle.statement_runs.specs.Attempted as attempted;
@@ -19,78 +21,102 @@ use crate::prepared_attempts::{
 use crate::room::check_room;
 use crate::row_attempts::{attempt_explain, attempt_rows, is_trailed};
 use alter_table::{attach, detach, detach_concurrently, finalize};
+use pg_values::PgText;
 use plan_tree::Planning;
 use prepared_statements::PreparedList;
 use schedule::Tally;
 use sessions::{PlanCacheMode, Settings};
-use sql_ast::{Command, Detachment, Query, Statement};
-use statement_steps::{Caller, Ending, Rest, SessionNames, Stop, ended};
+use sql_ast::{BoundText, Command, Detachment, Query, Statement};
+use statement_steps::{Attempt, Caller, Ending, Rest, Stop, ended};
 use std::alloc::Global;
 use stores::Stores;
 use table_statements::{create_partition, create_table, drop_tables, lock};
 
-fn attempt_command(
-    alloc: Global,
+fn attempt_attach(
+    attempt: &Attempt<'_>,
     stores: &mut Stores,
-    names: &SessionNames,
-    caller: Caller,
+    parent: &PgText,
+    name: &PgText,
+    bound: &BoundText,
+    out: &[u8],
+) -> Result<Ending, Stop>
+    requires { MayAttempt stores.old attempt.now.caller }
+    ensures { (rest : Option OneRest) (ps : List Prepared) → IsStatement rest result stores.old stores.new out.now out.now attempt.now.caller (attempted.command_attempted attempt.now.names.now attempt.now.caller rest ps (attaches parent.now name.now (bound_tree bound.now))) }
+{
+    check_room(stores, attempt.caller);
+    let above = parent.as_bytes();
+    let table = name.as_bytes();
+    ended(attach(attempt, stores, above, table, bound))
+}
+
+fn attempt_detach(
+    attempt: &Attempt<'_>,
+    stores: &mut Stores,
+    rest: Option<Rest>,
+    parent: &PgText,
+    name: &PgText,
+    how: &Detachment,
+    out: &[u8],
+) -> Result<Ending, Stop>
+    requires { MayAttempt stores.old attempt.now.caller }
+    ensures { (ps : List Prepared) → IsStatement rest result stores.old stores.new out.now out.now attempt.now.caller (attempted.command_attempted attempt.now.names.now attempt.now.caller rest ps (detaches parent.now name.now how.now)) }
+{
+    check_room(stores, attempt.caller);
+    let above = parent.as_bytes();
+    let table = name.as_bytes();
+    match how {
+        Detachment::AtOnce => ended(detach(attempt, stores, above, table)),
+        Detachment::Concurrently => detach_concurrently(attempt, stores, rest, above, table),
+        Detachment::Finalize => ended(finalize(attempt, stores, above, table)),
+    }
+}
+
+fn attempt_command(
+    attempt: &Attempt<'_>,
+    stores: &mut Stores,
     rest: Option<Rest>,
     prepared: &mut PreparedList,
     command: &Command,
     out: &[u8],
 ) -> Result<Ending, Stop>
-    requires { MayAttempt stores.old caller }
-    ensures is { IsStatement rest result stores.old stores.new out.now out.now caller (attempted.command_attempted names.now caller rest (listed prepared.old) (command_tree command.now)) }
+    requires { MayAttempt stores.old attempt.now.caller }
+    ensures is { IsStatement rest result stores.old stores.new out.now out.now attempt.now.caller (attempted.command_attempted attempt.now.names.now attempt.now.caller rest (listed prepared.old) (command_tree command.now)) }
     ensures kept { IsKept result (listed prepared.old) (listed prepared.new) (executions.command_kept (listed prepared.old) (command_tree command.now)) }
 {
-    check_room(stores, caller);
+    check_room(stores, attempt.caller);
     match command {
         Command::CreateTable(name, columns, by) => ended(create_table(
-            alloc, stores, names, caller, name, columns, by,
+            attempt, stores, name, columns, by,
         )),
         Command::CreatePartition(name, parent, bound, by) => ended(create_partition(
-            alloc, stores, names, caller, name, parent, bound, by,
+            attempt, stores, name, parent, bound, by,
         )),
         Command::DropTables(if_there, tables) => {
             let tables = tables.as_slice();
-            ended(drop_tables(alloc, stores, names, caller, *if_there, tables))
+            ended(drop_tables(attempt, stores, *if_there, tables))
         }
         Command::Attach(parent, name, bound) => {
-            let above = parent.as_bytes();
-            let table = name.as_bytes();
-            ended(attach(alloc, stores, names, caller, above, table, bound))
+            attempt_attach(attempt, stores, parent, name, bound, out)
         }
         Command::Detach(parent, name, how) => {
-            let above = parent.as_bytes();
-            let table = name.as_bytes();
-            match how {
-                Detachment::AtOnce => ended(detach(alloc, stores, names, caller, above, table)),
-                Detachment::Concurrently => {
-                    detach_concurrently(alloc, stores, names, caller, rest, above, table)
-                }
-                Detachment::Finalize => {
-                    ended(finalize(alloc, stores, names, caller, above, table))
-                }
-            }
+            attempt_detach(attempt, stores, rest, parent, name, how, out)
         }
         Command::Lock(tables, mode) => {
             let tables = tables.as_slice();
-            ended(lock(alloc, stores, names, caller, tables, *mode))
+            ended(lock(attempt, stores, tables, *mode))
         }
         Command::Deallocate(name) => {
             let name = name.as_bytes();
-            ended(attempt_deallocate(alloc, stores, caller, prepared, name))
+            ended(attempt_deallocate(attempt, stores, prepared, name))
         }
-        Command::DeallocateAll => ended(attempt_deallocate_all(alloc, stores, caller, prepared)),
-        _ => ended(omit(alloc, stores, caller, command_word(command), out)),
+        Command::DeallocateAll => ended(attempt_deallocate_all(attempt, stores, prepared)),
+        _ => ended(omit(attempt, stores, command_word(command), out)),
     }
 }
 
 fn attempt_query(
-    alloc: Global,
+    attempt: &Attempt<'_>,
     stores: &mut Stores,
-    names: &SessionNames,
-    caller: Caller,
     how: Planning,
     trailed: bool,
     rest: Option<Rest>,
@@ -99,43 +125,30 @@ fn attempt_query(
     tally: &mut Tally,
     out: &mut Vec<u8>,
 ) -> Result<(), Stop>
-    requires may { MayAttempt stores.old caller }
-    requires rest { MayGoOn stores.old caller rest }
-    ensures tally { IsTallied rest result stores.old tally.old tally.new caller (given.query_given how names.now caller rest (listed prepared.old) (query_tree query.now)) }
-    ensures is { IsStatement rest (ended result) stores.old stores.new out.old.items out.new.items caller (attempted.query_attempted trailed how names.now caller rest (listed prepared.old) (query_tree query.now)) }
+    requires may { MayAttempt stores.old attempt.now.caller }
+    requires rest { MayGoOn stores.old attempt.now.caller rest }
+    ensures tally { IsTallied rest result stores.old tally.old tally.new attempt.now.caller (given.query_given how attempt.now.names.now attempt.now.caller rest (listed prepared.old) (query_tree query.now)) }
+    ensures is { IsStatement rest (ended result) stores.old stores.new out.old.items out.new.items attempt.now.caller (attempted.query_attempted trailed how attempt.now.names.now attempt.now.caller rest (listed prepared.old) (query_tree query.now)) }
     ensures kept { IsKept (ended result) (listed prepared.old) (listed prepared.new) (executions.query_kept (listed prepared.old) (query_tree query.now)) }
 {
     match query {
-        Query::Rows(s) => attempt_rows(
-            alloc,
-            stores,
-            names,
-            &[],
-            caller,
-            how,
-            trailed,
-            rest,
-            s,
-            tally,
-            out,
-        ),
+        Query::Rows(s) => attempt_rows(attempt, stores, &[], how, trailed, rest, s, tally, out),
         Query::Prepare(name, types, s) => {
-            attempt_prepare(alloc, stores, caller, prepared, name, types, s)
+            attempt_prepare(attempt, stores, prepared, name, types, s)
         }
         Query::Execute(name, arguments) => {
             let name = name.as_bytes();
             attempt_execute(
-                alloc, stores, names, caller, how, trailed, rest, prepared, name, arguments, tally,
-                out,
+                attempt, stores, how, trailed, rest, prepared, name, arguments, tally, out,
             )
         }
         Query::ExplainSelect(analyze, s) => {
-            attempt_explain(alloc, stores, names, &[], caller, how, *analyze, s, out)
+            attempt_explain(attempt, stores, &[], how, *analyze, s, out)
         }
         Query::ExplainExecute(analyze, name, arguments) => {
             let name = name.as_bytes();
             attempt_explain_execute(
-                alloc, stores, names, caller, how, prepared, *analyze, name, arguments, out,
+                attempt, stores, how, prepared, *analyze, name, arguments, out,
             )
         }
     }
@@ -174,16 +187,20 @@ pub(crate) fn attempt(
     ensures is { IsStatement rest result stores.old stores.new out.old.items out.new.items caller (attempted.attempted options.now caller rest settings (listed prepared.old) (statement_tree statement.now)) }
     ensures kept { IsKept result (listed prepared.old) (listed prepared.new) (executions.kept (listed prepared.old) (statement_tree statement.now)) }
 {
-    let names = &options.names;
+    let attempt = Attempt {
+        alloc,
+        names: &options.names,
+        caller,
+    };
     match statement {
         Statement::Command(command) => {
-            attempt_command(alloc, stores, names, caller, rest, prepared, command, out)
+            attempt_command(&attempt, stores, rest, prepared, command, out)
         }
         Statement::Query(query) => {
             let how = planning_of(settings);
             let trailed = is_trailed(options.trail, caller);
             let done = attempt_query(
-                alloc, stores, names, caller, how, trailed, rest, prepared, query, tally, out,
+                &attempt, stores, how, trailed, rest, prepared, query, tally, out,
             );
             ended(done)
         }

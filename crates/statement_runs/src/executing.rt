@@ -16,7 +16,7 @@ use expression_binder::{Param, ScopeColumn, ScopeItem};
 use pg_values::{NoMemory, PgText, Refusal};
 use prepared_statements::{PreparedList, PreparedStatement};
 use sql_ast::{ExprList, FromItem, NamedTable, RowStatement};
-use statement_steps::{Caller, Rest, scope_columns};
+use statement_steps::{Attempt, Rest, scope_columns};
 use std::alloc::Global;
 use std::rc::Rc;
 use stores::Stores;
@@ -32,33 +32,33 @@ pub(crate) struct Execution {
 
 // The columns of the table that the name means for the session: none where there is no such table.
 fn columns_named(
-    alloc: Global,
+    attempt: &Attempt<'_>,
     stores: &Stores,
-    caller: Caller,
     name: &[u8],
 ) -> Result<Vec<ScopeColumn>, NoMemory>
-    requires { MayAttempt stores.now caller }
-    ensures { IfOk result (λ v. (h : History) → Stands stores.now h → v.items ≡ executions.columns_at h (resolved h caller.session name.now)) }
+    requires { MayAttempt stores.now attempt.now.caller }
+    ensures { IfOk result (λ v. (h : History) → Stands stores.now h → v.items ≡ executions.columns_at h (resolved h attempt.now.caller.session name.now)) }
 {
-    match stores.catalog.resolve(&stores.txs, caller.session, name) {
+    let alloc = attempt.alloc;
+    let session = attempt.caller.session;
+    match stores.catalog.resolve(&stores.txs, session, name) {
         Some(table) => scope_columns(alloc, stores.catalog.table(table).columns.as_slice()),
         None => Ok(Vec::new(alloc)),
     }
 }
 
 fn item_meant(
-    alloc: Global,
+    attempt: &Attempt<'_>,
     stores: &Stores,
-    caller: Caller,
     place: u32,
     name: &[u8],
     alias: &[u8],
 ) -> Result<ScopeItem, NoMemory>
-    requires { MayAttempt stores.now caller }
-    ensures { IfOk result (λ i. (h : History) → Stands stores.now h → i ≡ record { name = alias.now; number = place; columns = executions.columns_at h (resolved h caller.session name.now) }) }
+    requires { MayAttempt stores.now attempt.now.caller }
+    ensures { IfOk result (λ i. (h : History) → Stands stores.now h → i ≡ record { name = alias.now; number = place; columns = executions.columns_at h (resolved h attempt.now.caller.session name.now) }) }
 {
-    let columns = columns_named(alloc, stores, caller, name)?;
-    Ok(ScopeItem::new(PgText::from_bytes(alloc, alias)?, place, columns))
+    let columns = columns_named(attempt, stores, name)?;
+    Ok(ScopeItem::new(PgText::from_bytes(attempt.alloc, alias)?, place, columns))
 }
 
 fn item_name(table: &NamedTable) -> &[u8]
@@ -71,19 +71,17 @@ fn item_name(table: &NamedTable) -> &[u8]
 }
 
 fn table_meant(
-    alloc: Global,
+    attempt: &Attempt<'_>,
     stores: &Stores,
-    caller: Caller,
     place: u32,
     table: &NamedTable,
 ) -> Result<ScopeItem, NoMemory>
-    requires { MayAttempt stores.now caller }
-    ensures { IfOk result (λ i. (h : History) → Stands stores.now h → i ≡ executions.item_meant h caller.session place table.now) }
+    requires { MayAttempt stores.now attempt.now.caller }
+    ensures { IfOk result (λ i. (h : History) → Stands stores.now h → i ≡ executions.item_meant h attempt.now.caller.session place table.now) }
 {
     item_meant(
-        alloc,
+        attempt,
         stores,
-        caller,
         place,
         table.name.as_bytes(),
         item_name(table),
@@ -92,21 +90,20 @@ fn table_meant(
 
 // The items of FROM: none where there are more than a SELECT can have.
 fn from_meant(
-    alloc: Global,
+    attempt: &Attempt<'_>,
     stores: &Stores,
-    caller: Caller,
     from: &[FromItem],
 ) -> Result<Vec<ScopeItem>, NoMemory>
-    requires { MayAttempt stores.now caller }
-    ensures { IfOk result (λ v. (h : History) → Stands stores.now h → v.items ≡ executions.from_meant h caller.session (map joined_tree from.now)) }
+    requires { MayAttempt stores.now attempt.now.caller }
+    ensures { IfOk result (λ v. (h : History) → Stands stores.now h → v.items ≡ executions.from_meant h attempt.now.caller.session (map joined_tree from.now)) }
 {
-    let mut items = Vec::new(alloc);
+    let mut items = Vec::new(attempt.alloc);
     if from.len() > 4 {
         return Ok(items);
     }
     let mut place: u32 = 0;
     for item in from {
-        items.push(table_meant(alloc, stores, caller, place, &item.table)?)?;
+        items.push(table_meant(attempt, stores, place, &item.table)?)?;
         place += 1;
     }
     Ok(items)
@@ -121,25 +118,25 @@ fn one_item(alloc: Global, item: ScopeItem) -> Result<Vec<ScopeItem>, NoMemory>
 }
 
 fn tables_meant(
-    alloc: Global,
+    attempt: &Attempt<'_>,
     stores: &Stores,
-    caller: Caller,
     statement: &RowStatement,
 ) -> Result<Vec<ScopeItem>, NoMemory>
-    requires { MayAttempt stores.now caller }
-    ensures { IfOk result (λ v. (h : History) → Stands stores.now h → v.items ≡ executions.tables_meant h caller.session (row_tree statement.now)) }
+    requires { MayAttempt stores.now attempt.now.caller }
+    ensures { IfOk result (λ v. (h : History) → Stands stores.now h → v.items ≡ executions.tables_meant h attempt.now.caller.session (row_tree statement.now)) }
 {
+    let alloc = attempt.alloc;
     match statement {
-        RowStatement::Select(select) => from_meant(alloc, stores, caller, select.from.as_slice()),
+        RowStatement::Select(select) => from_meant(attempt, stores, select.from.as_slice()),
         RowStatement::Insert(insert) => {
             let name = insert.table.as_bytes();
-            one_item(alloc, item_meant(alloc, stores, caller, 0, name, name)?)
+            one_item(alloc, item_meant(attempt, stores, 0, name, name)?)
         }
         RowStatement::Update(update) => {
-            one_item(alloc, table_meant(alloc, stores, caller, 0, &update.table)?)
+            one_item(alloc, table_meant(attempt, stores, 0, &update.table)?)
         }
         RowStatement::Delete(delete) => {
-            one_item(alloc, table_meant(alloc, stores, caller, 0, &delete.table)?)
+            one_item(alloc, table_meant(attempt, stores, 0, &delete.table)?)
         }
     }
 }
@@ -159,42 +156,40 @@ fn is_under_way(rest: &Option<Rest>) -> bool
 }
 
 fn bind(
-    alloc: Global,
+    attempt: &Attempt<'_>,
     stores: &Stores,
-    caller: Caller,
     prepared: &PreparedStatement,
     arguments: &ExprList,
 ) -> Result<Vec<Param>, Refusal>
-    requires { MayAttempt stores.now caller }
+    requires { MayAttempt stores.now attempt.now.caller }
     ensures { (h : History) → Stands stores.now h → IsAnswerBy (λ v. v.items) result
-        (executions.params_over (executions.own_tables h caller.session (seen prepared.now)) None (seen prepared.now) (trees arguments.now)) }
+        (executions.params_over (executions.own_tables h attempt.now.caller.session (seen prepared.now)) None (seen prepared.now) (trees arguments.now)) }
 {
-    let tables = tables_meant(alloc, stores, caller, prepared.statement())?;
-    prepared.bind_arguments(alloc, &tables, arguments)
+    let tables = tables_meant(attempt, stores, prepared.statement())?;
+    prepared.bind_arguments(attempt.alloc, &tables, arguments)
 }
 
 /// What an EXECUTE of the name executes; or 26000 where nothing is prepared under it, 42601 where it has as many
 /// arguments as it should not have, or the first fault of these. An UPDATE or a DELETE that waited for a row is not
 /// bound again.
 pub(crate) fn executed(
-    alloc: Global,
+    attempt: &Attempt<'_>,
     stores: &Stores,
-    caller: Caller,
     rest: &Option<Rest>,
     prepared: &PreparedList,
     name: &[u8],
     arguments: &ExprList,
 ) -> Result<Execution, Refusal>
-    requires { MayAttempt stores.now caller }
+    requires { MayAttempt stores.now attempt.now.caller }
     ensures { (h : History) → Stands stores.now h → IsAnswerBy executions.execution result
-        (executions.executed h caller.session rest.now (listed prepared.now) name.now (trees arguments.now)) }
+        (executions.executed h attempt.now.caller.session rest.now (listed prepared.now) name.now (trees arguments.now)) }
 {
-    let found = prepared.find(alloc, name)?;
-    found.check_count(alloc, arguments)?;
+    let found = prepared.find(attempt.alloc, name)?;
+    found.check_count(attempt.alloc, arguments)?;
     let params = if is_under_way(rest) {
-        Vec::new(alloc)
+        Vec::new(attempt.alloc)
     } else {
-        bind(alloc, stores, caller, found, arguments)?
+        bind(attempt, stores, found, arguments)?
     };
     Ok(Execution {
         statement: share(found.statement())?,
@@ -204,21 +199,20 @@ pub(crate) fn executed(
 
 /// What an EXPLAIN of such an EXECUTE plans: 0A000 comes behind 26000 where that is no SELECT.
 pub(crate) fn explained_by(
-    alloc: Global,
+    attempt: &Attempt<'_>,
     stores: &Stores,
-    caller: Caller,
     prepared: &PreparedList,
     name: &[u8],
     arguments: &ExprList,
 ) -> Result<Execution, Refusal>
-    requires { MayAttempt stores.now caller }
+    requires { MayAttempt stores.now attempt.now.caller }
     ensures { (h : History) → Stands stores.now h → IsAnswerBy executions.execution result
-        (executions.explained_by h caller.session (listed prepared.now) name.now (trees arguments.now)) }
+        (executions.explained_by h attempt.now.caller.session (listed prepared.now) name.now (trees arguments.now)) }
 {
-    let found = prepared.find(alloc, name)?;
-    found.check_explained(alloc)?;
-    found.check_count(alloc, arguments)?;
-    let params = bind(alloc, stores, caller, found, arguments)?;
+    let found = prepared.find(attempt.alloc, name)?;
+    found.check_explained(attempt.alloc)?;
+    found.check_count(attempt.alloc, arguments)?;
+    let params = bind(attempt, stores, found, arguments)?;
     Ok(Execution {
         statement: share(found.statement())?,
         params,

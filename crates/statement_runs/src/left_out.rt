@@ -10,8 +10,7 @@ ghost use Rattle.statement_runs.specs.Printed.{IsStatement};
 use pg_values::NoMemory;
 use refusals::left_out;
 use sql_ast::Command;
-use statement_steps::{Caller, Stop};
-use std::alloc::Global;
+use statement_steps::{Attempt, Stop};
 use stores::Stores;
 
 pub(crate) fn command_word(command: &Command) -> &'static [u8]
@@ -36,16 +35,15 @@ pub(crate) fn command_word(command: &Command) -> &'static [u8]
 
 // It is refused, and told by that word.
 pub(crate) fn omit(
-    alloc: Global,
+    attempt: &Attempt<'_>,
     stores: &Stores,
-    caller: Caller,
     word: &[u8],
     out: &[u8],
 ) -> Result<(), Stop>
-    requires { MayAttempt stores.now caller }
-    ensures { (left : Option Left) → IsStatement left (ended result) stores.now stores.now out.now out.now caller (attempted.omitted word.now) }
+    requires { MayAttempt stores.now attempt.now.caller }
+    ensures { (left : Option Left) → IsStatement left (ended result) stores.now stores.now out.now out.now attempt.now.caller (attempted.omitted word.now) }
 {
-    match left_out(alloc, word) {
+    match left_out(attempt.alloc, word) {
         Ok(fault) => Err(Stop::Refused(fault)),
         Err(NoMemory) => Err(Stop::NoMemory),
     }

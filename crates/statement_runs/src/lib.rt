@@ -16,7 +16,7 @@
 //! Where a run is asked for it, each SELECT, INSERT, UPDATE and DELETE of a step prints its trail behind its
 //! answer: how many rows it gave or changed, and the leaves that it read (`specs/Trails.antt`).
 //!
-//! A kind of statement is one case here, which leads to a crate of its own.
+//! A kind of statement is one case here, which leads to the crate that runs it.
 //!
 //! What a session has prepared stands beside the stores and belongs to no transaction. An EXECUTE is the statement of
 //! that name, with the values of its arguments, which are bound where its attempt begins (`specs/Executions.antt`).

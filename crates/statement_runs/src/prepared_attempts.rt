@@ -29,8 +29,7 @@ use plan_tree::Planning;
 use prepared_statements::PreparedList;
 use schedule::Tally;
 use sql_ast::{ExprList, NameList, RowStatement};
-use statement_steps::{Caller, Rest, SessionNames, Stop, hold_if_repeatable};
-use std::alloc::Global;
+use statement_steps::{Attempt, Caller, Rest, Stop, hold_if_repeatable};
 use std::rc::Rc;
 use stores::Stores;
 
@@ -49,54 +48,51 @@ fn list(stores: &Stores, caller: Caller, done: Result<(), Refusal>) -> Result<()
 
 /// The statement is prepared, or refused.
 pub(crate) fn attempt_prepare(
-    alloc: Global,
+    attempt: &Attempt<'_>,
     stores: &mut Stores,
-    caller: Caller,
     prepared: &mut PreparedList,
     name: &PgText,
     types: &NameList,
     statement: &Rc<RowStatement>,
 ) -> Result<(), Stop>
-    requires { MayAttempt stores.old caller }
-    ensures is { IsStep (λ u. u) result stores.old stores.new caller (caller.cmd + 1) (attempted.listing caller (prepared_with (listed prepared.old) name.now types.now (row_tree statement.now.value))) }
+    requires { MayAttempt stores.old attempt.now.caller }
+    ensures is { IsStep (λ u. u) result stores.old stores.new attempt.now.caller (attempt.now.caller.cmd + 1) (attempted.listing attempt.now.caller (prepared_with (listed prepared.old) name.now types.now (row_tree statement.now.value))) }
     ensures kept { IsKept (ended result) (listed prepared.old) (listed prepared.new) (executions.listed_after (listed prepared.old) (prepared_with (listed prepared.old) name.now types.now (row_tree statement.now.value))) }
 {
-    hold_if_repeatable(alloc, stores, caller)?;
-    let done = prepared.prepare(alloc, name, types, statement);
-    list(stores, caller, done)
+    hold_if_repeatable(attempt, stores)?;
+    let done = prepared.prepare(attempt.alloc, name, types, statement);
+    list(stores, attempt.caller, done)
 }
 
 /// The statement of that name is forgotten.
 pub(crate) fn attempt_deallocate(
-    alloc: Global,
+    attempt: &Attempt<'_>,
     stores: &mut Stores,
-    caller: Caller,
     prepared: &mut PreparedList,
     name: &[u8],
 ) -> Result<(), Stop>
-    requires { MayAttempt stores.old caller }
-    ensures is { IsStep (λ u. u) result stores.old stores.new caller (caller.cmd + 1) (attempted.listing caller (deallocated (listed prepared.old) name.now)) }
+    requires { MayAttempt stores.old attempt.now.caller }
+    ensures is { IsStep (λ u. u) result stores.old stores.new attempt.now.caller (attempt.now.caller.cmd + 1) (attempted.listing attempt.now.caller (deallocated (listed prepared.old) name.now)) }
     ensures kept { IsKept (ended result) (listed prepared.old) (listed prepared.new) (executions.listed_after (listed prepared.old) (deallocated (listed prepared.old) name.now)) }
 {
-    hold_if_repeatable(alloc, stores, caller)?;
-    let done = prepared.deallocate(alloc, name);
-    list(stores, caller, done)
+    hold_if_repeatable(attempt, stores)?;
+    let done = prepared.deallocate(attempt.alloc, name);
+    list(stores, attempt.caller, done)
 }
 
 /// All of them are.
 pub(crate) fn attempt_deallocate_all(
-    alloc: Global,
+    attempt: &Attempt<'_>,
     stores: &mut Stores,
-    caller: Caller,
     prepared: &mut PreparedList,
 ) -> Result<(), Stop>
-    requires { MayAttempt stores.old caller }
-    ensures is { IsStep (λ u. u) result stores.old stores.new caller (caller.cmd + 1) (attempted.listing caller (Ok [])) }
+    requires { MayAttempt stores.old attempt.now.caller }
+    ensures is { IsStep (λ u. u) result stores.old stores.new attempt.now.caller (attempt.now.caller.cmd + 1) (attempted.listing attempt.now.caller (Ok [])) }
     ensures kept { IsKept (ended result) (listed prepared.old) (listed prepared.new) [] }
 {
-    hold_if_repeatable(alloc, stores, caller)?;
+    hold_if_repeatable(attempt, stores)?;
     prepared.deallocate_all();
-    list(stores, caller, Ok(()))
+    list(stores, attempt.caller, Ok(()))
 }
 
 // It is refused before it does anything.
@@ -114,10 +110,8 @@ fn stop_for(stores: &Stores, caller: Caller, refusal: Refusal) -> Stop
 }
 
 pub(crate) fn attempt_execute(
-    alloc: Global,
+    attempt: &Attempt<'_>,
     stores: &mut Stores,
-    names: &SessionNames,
-    caller: Caller,
     how: Planning,
     trailed: bool,
     rest: Option<Rest>,
@@ -127,18 +121,16 @@ pub(crate) fn attempt_execute(
     tally: &mut Tally,
     out: &mut Vec<u8>,
 ) -> Result<(), Stop>
-    requires may { MayAttempt stores.old caller }
-    requires rest { MayGoOn stores.old caller rest }
-    ensures tally { IsTallied rest result stores.old tally.old tally.new caller (λ h. given.execution_given how names.now caller rest (executions.executed h caller.session rest (listed prepared.now) name.now (trees arguments.now)) h) }
-    ensures is { IsStatement rest (ended result) stores.old stores.new out.old.items out.new.items caller (λ h. attempted.execute_attempted trailed how names.now caller rest (executions.executed h caller.session rest (listed prepared.now) name.now (trees arguments.now)) h) }
+    requires may { MayAttempt stores.old attempt.now.caller }
+    requires rest { MayGoOn stores.old attempt.now.caller rest }
+    ensures tally { IsTallied rest result stores.old tally.old tally.new attempt.now.caller (λ h. given.execution_given how attempt.now.names.now attempt.now.caller rest (executions.executed h attempt.now.caller.session rest (listed prepared.now) name.now (trees arguments.now)) h) }
+    ensures is { IsStatement rest (ended result) stores.old stores.new out.old.items out.new.items attempt.now.caller (λ h. attempted.execute_attempted trailed how attempt.now.names.now attempt.now.caller rest (executions.executed h attempt.now.caller.session rest (listed prepared.now) name.now (trees arguments.now)) h) }
 {
-    match executed(alloc, stores, caller, &rest, prepared, name, arguments) {
+    match executed(attempt, stores, &rest, prepared, name, arguments) {
         Ok(execution) => attempt_rows(
-            alloc,
+            attempt,
             stores,
-            names,
             &execution.params,
-            caller,
             how,
             trailed,
             rest,
@@ -146,40 +138,36 @@ pub(crate) fn attempt_execute(
             tally,
             out,
         ),
-        Err(refusal) => Err(stop_for(stores, caller, refusal)),
+        Err(refusal) => Err(stop_for(stores, attempt.caller, refusal)),
     }
 }
 
 // The plan of a SELECT that was prepared. No other statement comes here.
 fn plan_execution(
-    alloc: Global,
+    attempt: &Attempt<'_>,
     stores: &mut Stores,
-    names: &SessionNames,
     params: &[Param],
-    caller: Caller,
     how: Planning,
     analyze: bool,
     statement: &RowStatement,
     out: &mut Vec<u8>,
 ) -> Result<(), Stop>
-    requires { MayAttempt stores.old caller }
-    ensures { (left : Option Left) → IsStatement left (ended result) stores.old stores.new out.old.items out.new.items caller (attempted.plan_of_execution how names.now params.now caller analyze (row_tree statement.now)) }
+    requires { MayAttempt stores.old attempt.now.caller }
+    ensures { (left : Option Left) → IsStatement left (ended result) stores.old stores.new out.old.items out.new.items attempt.now.caller (attempted.plan_of_execution how attempt.now.names.now params.now attempt.now.caller analyze (row_tree statement.now)) }
 {
     match statement {
         RowStatement::Select(s) => {
-            attempt_explain(alloc, stores, names, params, caller, how, analyze, s, out)
+            attempt_explain(attempt, stores, params, how, analyze, s, out)
         }
-        RowStatement::Insert(_) => omit(alloc, stores, caller, b"INSERT", out),
-        RowStatement::Update(_) => omit(alloc, stores, caller, b"UPDATE", out),
-        RowStatement::Delete(_) => omit(alloc, stores, caller, b"DELETE", out),
+        RowStatement::Insert(_) => omit(attempt, stores, b"INSERT", out),
+        RowStatement::Update(_) => omit(attempt, stores, b"UPDATE", out),
+        RowStatement::Delete(_) => omit(attempt, stores, b"DELETE", out),
     }
 }
 
 pub(crate) fn attempt_explain_execute(
-    alloc: Global,
+    attempt: &Attempt<'_>,
     stores: &mut Stores,
-    names: &SessionNames,
-    caller: Caller,
     how: Planning,
     prepared: &PreparedList,
     analyze: bool,
@@ -187,21 +175,19 @@ pub(crate) fn attempt_explain_execute(
     arguments: &ExprList,
     out: &mut Vec<u8>,
 ) -> Result<(), Stop>
-    requires { MayAttempt stores.old caller }
-    ensures { (left : Option Left) → IsStatement left (ended result) stores.old stores.new out.old.items out.new.items caller (attempted.explain_execute_attempted how names.now caller (listed prepared.now) analyze name.now (trees arguments.now)) }
+    requires { MayAttempt stores.old attempt.now.caller }
+    ensures { (left : Option Left) → IsStatement left (ended result) stores.old stores.new out.old.items out.new.items attempt.now.caller (attempted.explain_execute_attempted how attempt.now.names.now attempt.now.caller (listed prepared.now) analyze name.now (trees arguments.now)) }
 {
-    match explained_by(alloc, stores, caller, prepared, name, arguments) {
+    match explained_by(attempt, stores, prepared, name, arguments) {
         Ok(execution) => plan_execution(
-            alloc,
+            attempt,
             stores,
-            names,
             &execution.params,
-            caller,
             how,
             analyze,
             &execution.statement,
             out,
         ),
-        Err(refusal) => Err(stop_for(stores, caller, refusal)),
+        Err(refusal) => Err(stop_for(stores, attempt.caller, refusal)),
     }
 }

@@ -33,7 +33,7 @@ use plan_tree::Planning;
 use schedule::{BlockKind, Tally};
 use select_statement::{Answered, explain, select};
 use sql_ast::{Delete, Insert, RowStatement, Select, Update};
-use statement_steps::{Caller, Rest, SessionNames, Stop};
+use statement_steps::{Attempt, Caller, Rest, Stop};
 use std::alloc::Global;
 use stores::Stores;
 
@@ -80,23 +80,22 @@ fn print_answer(
 }
 
 fn attempt_select(
-    alloc: Global,
+    attempt: &Attempt<'_>,
     stores: &mut Stores,
-    names: &SessionNames,
     params: &[Param],
-    caller: Caller,
     how: Planning,
     trailed: bool,
     statement: &Select,
     tally: &mut Tally,
     out: &mut Vec<u8>,
 ) -> Result<(), Stop>
-    requires { MayAttempt stores.old caller }
-    ensures tally { (left : Option Left) → IsTallied left result stores.old tally.old tally.new caller (given.select_given how names.now params.now caller (select_tree statement.now)) }
-    ensures is { (left : Option Left) → IsStatement left (ended result) stores.old stores.new out.old.items out.new.items caller (attempted.select_attempted trailed how names.now params.now caller (select_tree statement.now)) }
+    requires { MayAttempt stores.old attempt.now.caller }
+    ensures tally { (left : Option Left) → IsTallied left result stores.old tally.old tally.new attempt.now.caller (given.select_given how attempt.now.names.now params.now attempt.now.caller (select_tree statement.now)) }
+    ensures is { (left : Option Left) → IsStatement left (ended result) stores.old stores.new out.old.items out.new.items attempt.now.caller (attempted.select_attempted trailed how attempt.now.names.now params.now attempt.now.caller (select_tree statement.now)) }
 {
-    check_room(stores, caller);
-    match select(alloc, stores, names, params, caller, how, statement) {
+    let alloc = attempt.alloc;
+    check_room(stores, attempt.caller);
+    match select(attempt, stores, params, how, statement) {
         Ok(answered) => {
             match print_answer(alloc, &stores.catalog, trailed, &answered, tally, out) {
                 Ok(()) => Ok(()),
@@ -108,22 +107,21 @@ fn attempt_select(
 }
 
 fn attempt_insert(
-    alloc: Global,
+    attempt: &Attempt<'_>,
     stores: &mut Stores,
-    names: &SessionNames,
     params: &[Param],
-    caller: Caller,
     trailed: bool,
     statement: &Insert,
     out: &mut Vec<u8>,
 ) -> Result<(), Stop>
-    requires { MayAttempt stores.old caller }
-    ensures { (left : Option Left) → IsStatement left (ended result) stores.old stores.new out.old.items out.new.items caller
-        (attempted.printed (attempted.inserted_text trailed (length (map trees statement.now.rows))) (inserted names.now params.now caller statement.now.table statement.now.columns (map trees statement.now.rows))) }
+    requires { MayAttempt stores.old attempt.now.caller }
+    ensures { (left : Option Left) → IsStatement left (ended result) stores.old stores.new out.old.items out.new.items attempt.now.caller
+        (attempted.printed (attempted.inserted_text trailed (length (map trees statement.now.rows))) (inserted attempt.now.names.now params.now attempt.now.caller statement.now.table statement.now.columns (map trees statement.now.rows))) }
 {
-    check_room(stores, caller);
+    let alloc = attempt.alloc;
+    check_room(stores, attempt.caller);
     let rows = statement.rows.as_slice().len() as u64;
-    match insert(alloc, stores, names, params, caller, statement) {
+    match insert(attempt, stores, params, statement) {
         Ok(()) => match write_trail(alloc, &stores.catalog, trailed, b"INSERT", rows, &[], out) {
             Ok(()) => Ok(()),
             Err(NoMemory) => Err(Stop::NoMemory),
@@ -145,14 +143,14 @@ fn print_changes(
     ensures tally { OnOk result (tally.new ≡ added tally.old (given.of_change (told_by changes.now))) }
     ensures text { OnOk result ((h : History) → CatalogueStands catalog.now h → out.new.items ≡ out.old.items ++ attempted.changed_text trailed word.now h (told_by changes.now)) }
 {
-    count(tally, 0, changes.reads.len() as u64);
+    count(tally, 0, changes.reads.as_slice().len() as u64);
     write_trail(
         alloc,
         catalog,
         trailed,
         word,
         changes.count,
-        &changes.reads,
+        changes.reads.as_slice(),
         out,
     )
 }
@@ -184,11 +182,9 @@ fn finish_changes(
 }
 
 fn attempt_update(
-    alloc: Global,
+    attempt: &Attempt<'_>,
     stores: &mut Stores,
-    names: &SessionNames,
     params: &[Param],
-    caller: Caller,
     how: Planning,
     trailed: bool,
     rest: Option<Rest>,
@@ -196,23 +192,21 @@ fn attempt_update(
     tally: &mut Tally,
     out: &mut Vec<u8>,
 ) -> Result<(), Stop>
-    requires may { MayAttempt stores.old caller }
-    requires rest { MayGoOn stores.old caller rest }
-    ensures tally { IsTallied rest result stores.old tally.old tally.new caller (λ h. given.given given.of_change (updated how names.now params.now caller rest statement.now.table (map setting statement.now.assignments) (maybe_tree statement.now.condition) h).told) }
-    ensures is { IsStatement rest (ended result) stores.old stores.new out.old.items out.new.items caller
-        (attempted.printed (attempted.changed_text trailed (codes "UPDATE")) (updated how names.now params.now caller rest statement.now.table (map setting statement.now.assignments) (maybe_tree statement.now.condition))) }
+    requires may { MayAttempt stores.old attempt.now.caller }
+    requires rest { MayGoOn stores.old attempt.now.caller rest }
+    ensures tally { IsTallied rest result stores.old tally.old tally.new attempt.now.caller (λ h. given.given given.of_change (updated how attempt.now.names.now params.now attempt.now.caller rest statement.now.table (map setting statement.now.assignments) (maybe_tree statement.now.condition) h).told) }
+    ensures is { IsStatement rest (ended result) stores.old stores.new out.old.items out.new.items attempt.now.caller
+        (attempted.printed (attempted.changed_text trailed (codes "UPDATE")) (updated how attempt.now.names.now params.now attempt.now.caller rest statement.now.table (map setting statement.now.assignments) (maybe_tree statement.now.condition))) }
 {
-    check_room(stores, caller);
-    let done = update(alloc, stores, names, params, caller, how, rest, statement);
-    finish_changes(alloc, stores, trailed, b"UPDATE", done, tally, out)
+    check_room(stores, attempt.caller);
+    let done = update(attempt, stores, params, how, rest, statement);
+    finish_changes(attempt.alloc, stores, trailed, b"UPDATE", done, tally, out)
 }
 
 fn attempt_delete(
-    alloc: Global,
+    attempt: &Attempt<'_>,
     stores: &mut Stores,
-    names: &SessionNames,
     params: &[Param],
-    caller: Caller,
     how: Planning,
     trailed: bool,
     rest: Option<Rest>,
@@ -220,23 +214,21 @@ fn attempt_delete(
     tally: &mut Tally,
     out: &mut Vec<u8>,
 ) -> Result<(), Stop>
-    requires may { MayAttempt stores.old caller }
-    requires rest { MayGoOn stores.old caller rest }
-    ensures tally { IsTallied rest result stores.old tally.old tally.new caller (λ h. given.given given.of_change (deleted how names.now params.now caller rest statement.now.table (maybe_tree statement.now.condition) h).told) }
-    ensures is { IsStatement rest (ended result) stores.old stores.new out.old.items out.new.items caller
-        (attempted.printed (attempted.changed_text trailed (codes "DELETE")) (deleted how names.now params.now caller rest statement.now.table (maybe_tree statement.now.condition))) }
+    requires may { MayAttempt stores.old attempt.now.caller }
+    requires rest { MayGoOn stores.old attempt.now.caller rest }
+    ensures tally { IsTallied rest result stores.old tally.old tally.new attempt.now.caller (λ h. given.given given.of_change (deleted how attempt.now.names.now params.now attempt.now.caller rest statement.now.table (maybe_tree statement.now.condition) h).told) }
+    ensures is { IsStatement rest (ended result) stores.old stores.new out.old.items out.new.items attempt.now.caller
+        (attempted.printed (attempted.changed_text trailed (codes "DELETE")) (deleted how attempt.now.names.now params.now attempt.now.caller rest statement.now.table (maybe_tree statement.now.condition))) }
 {
-    check_room(stores, caller);
-    let done = delete(alloc, stores, names, params, caller, how, rest, statement);
-    finish_changes(alloc, stores, trailed, b"DELETE", done, tally, out)
+    check_room(stores, attempt.caller);
+    let done = delete(attempt, stores, params, how, rest, statement);
+    finish_changes(attempt.alloc, stores, trailed, b"DELETE", done, tally, out)
 }
 
 pub(crate) fn attempt_rows(
-    alloc: Global,
+    attempt: &Attempt<'_>,
     stores: &mut Stores,
-    names: &SessionNames,
     params: &[Param],
-    caller: Caller,
     how: Planning,
     trailed: bool,
     rest: Option<Rest>,
@@ -244,49 +236,41 @@ pub(crate) fn attempt_rows(
     tally: &mut Tally,
     out: &mut Vec<u8>,
 ) -> Result<(), Stop>
-    requires may { MayAttempt stores.old caller }
-    requires rest { MayGoOn stores.old caller rest }
-    ensures tally { IsTallied rest result stores.old tally.old tally.new caller (given.row_given how names.now params.now caller rest (row_tree statement.now)) }
-    ensures is { IsStatement rest (ended result) stores.old stores.new out.old.items out.new.items caller (attempted.row_attempted trailed how names.now params.now caller rest (row_tree statement.now)) }
+    requires may { MayAttempt stores.old attempt.now.caller }
+    requires rest { MayGoOn stores.old attempt.now.caller rest }
+    ensures tally { IsTallied rest result stores.old tally.old tally.new attempt.now.caller (given.row_given how attempt.now.names.now params.now attempt.now.caller rest (row_tree statement.now)) }
+    ensures is { IsStatement rest (ended result) stores.old stores.new out.old.items out.new.items attempt.now.caller (attempted.row_attempted trailed how attempt.now.names.now params.now attempt.now.caller rest (row_tree statement.now)) }
 {
     match statement {
         RowStatement::Select(s) => {
-            attempt_select(
-                alloc, stores, names, params, caller, how, trailed, s, tally, out,
-            )
+            attempt_select(attempt, stores, params, how, trailed, s, tally, out)
         }
-        RowStatement::Insert(s) => {
-            attempt_insert(alloc, stores, names, params, caller, trailed, s, out)
-        }
+        RowStatement::Insert(s) => attempt_insert(attempt, stores, params, trailed, s, out),
         RowStatement::Update(s) => attempt_update(
-            alloc, stores, names, params, caller, how, trailed, rest, s, tally, out,
+            attempt, stores, params, how, trailed, rest, s, tally, out,
         ),
         RowStatement::Delete(s) => attempt_delete(
-            alloc, stores, names, params, caller, how, trailed, rest, s, tally, out,
+            attempt, stores, params, how, trailed, rest, s, tally, out,
         ),
     }
 }
 
 /// The plan is printed as a table. With ANALYZE the SELECT is run too; nothing of that is counted.
 pub(crate) fn attempt_explain(
-    alloc: Global,
+    attempt: &Attempt<'_>,
     stores: &mut Stores,
-    names: &SessionNames,
     params: &[Param],
-    caller: Caller,
     how: Planning,
     analyze: bool,
     statement: &Select,
     out: &mut Vec<u8>,
 ) -> Result<(), Stop>
-    requires { MayAttempt stores.old caller }
-    ensures { (left : Option Left) → IsStatement left (ended result) stores.old stores.new out.old.items out.new.items caller (attempted.plan_attempted how names.now params.now caller analyze (select_tree statement.now)) }
+    requires { MayAttempt stores.old attempt.now.caller }
+    ensures { (left : Option Left) → IsStatement left (ended result) stores.old stores.new out.old.items out.new.items attempt.now.caller (attempted.plan_attempted how attempt.now.names.now params.now attempt.now.caller analyze (select_tree statement.now)) }
 {
-    check_room(stores, caller);
-    match explain(
-        alloc, stores, names, params, caller, how, analyze, statement,
-    ) {
-        Ok(answer) => match write_table(alloc, &answer, out) {
+    check_room(stores, attempt.caller);
+    match explain(attempt, stores, params, how, analyze, statement) {
+        Ok(answer) => match write_table(attempt.alloc, &answer, out) {
             Ok(()) => Ok(()),
             Err(NoMemory) => Err(Stop::NoMemory),
         },

@@ -35,7 +35,7 @@ pub record Found : Type 0 where
   pub moves : Bool
 
 abbrev pub found_of : Gathered → Found
-found_of g = record { table = g.table; tree = seen g.tree; path = g.path.items; asked = change_meant g.ask; leaves = g.leaves.items; moves = g.moves }
+found_of g = record { table = g.table; tree = seen g.tree; path = g.path; asked = change_meant g.ask; leaves = g.leaves; moves = g.moves }
 
 -- SET names a key column
 abbrev pub is_set : List SettingMeant → KeyColumn → Bool

@@ -3,27 +3,26 @@ ghost use Rattle.pg_values.specs.Lists.{listed};
 ghost use Rattle.refusals.specs.Refusals as refusals;
 ghost use Rattle.statement_steps.specs.Faults as faults;
 
-use crate::SessionNames;
+use crate::Attempt;
 use pg_values::{Args, Fault, NoMemory, PgText, SessionList};
 use refusals::deadlock;
-use std::alloc::Global;
 
-fn name_of(alloc: Global, names: &SessionNames, session: u32) -> Result<PgText, NoMemory>
-    ensures { IfOk result (λ t. t ≡ faults.name_of names.now session) }
+fn name_of(attempt: &Attempt<'_>, session: u32) -> Result<PgText, NoMemory>
+    ensures { IfOk result (λ t. t ≡ faults.name_of attempt.now.names.now session) }
 {
-    match names.as_slice().get(session as usize) {
-        Some(name) => name.copy(alloc),
-        None => PgText::new(alloc),
+    match attempt.names.as_slice().get(session as usize) {
+        Some(name) => name.copy(attempt.alloc),
+        None => PgText::new(attempt.alloc),
     }
 }
 
-fn names_of(alloc: Global, names: &SessionNames, cycle: SessionList) -> Result<Args, NoMemory>
-    ensures { IfOk result (λ args. args ≡ map (faults.name_of names.now) (listed cycle)) }
+fn names_of(attempt: &Attempt<'_>, cycle: SessionList) -> Result<Args, NoMemory>
+    ensures { IfOk result (λ args. args ≡ map (faults.name_of attempt.now.names.now) (listed cycle)) }
 {
-    let mut args = Args::new(alloc);
+    let mut args = Args::new(attempt.alloc);
     for place in 0..65 {
         match cycle.at(place) {
-            Some(session) => args.push(name_of(alloc, names, session)?)?,
+            Some(session) => args.push(name_of(attempt, session)?)?,
             None => return Ok(args),
         }
     }
@@ -31,12 +30,8 @@ fn names_of(alloc: Global, names: &SessionNames, cycle: SessionList) -> Result<A
 }
 
 /// The deadlock of the sessions of a cycle, by their names.
-pub(crate) fn deadlock_of(
-    alloc: Global,
-    names: &SessionNames,
-    cycle: SessionList,
-) -> Result<Fault, NoMemory>
-    ensures { IfOk result (λ f. f ≡ refusals.deadlock (map (faults.name_of names.now) (listed cycle))) }
+pub(crate) fn deadlock_of(attempt: &Attempt<'_>, cycle: SessionList) -> Result<Fault, NoMemory>
+    ensures { IfOk result (λ f. f ≡ refusals.deadlock (map (faults.name_of attempt.now.names.now) (listed cycle))) }
 {
-    Ok(deadlock(names_of(alloc, names, cycle)?))
+    Ok(deadlock(names_of(attempt, cycle)?))
 }

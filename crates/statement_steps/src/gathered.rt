@@ -1,5 +1,5 @@
 use cond_logic::ChangeAsk;
-use pg_values::{LeafId, TableNo};
+use pg_values::{LeafId, ListOf, TableNo};
 use row_router::{PathPart, Tree};
 
 /// What a statement that changes rows has before it looks at them: the named table, its tree and the path above
@@ -8,8 +8,8 @@ use row_router::{PathPart, Tree};
 pub struct Gathered {
     pub table: TableNo,
     pub tree: Tree,
-    pub path: Vec<PathPart>,
+    pub path: ListOf<PathPart>,
     pub ask: ChangeAsk,
-    pub leaves: Vec<LeafId>,
+    pub leaves: ListOf<LeafId>,
     pub moves: bool,
 }

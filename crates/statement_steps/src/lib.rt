@@ -1,5 +1,5 @@
-//! What statements over the stores are made of: for whom one runs, how it ends or stops, where it goes on, and
-//! the parts that several of them share.
+//! What statements over the stores are made of: what an attempt at one is given, how it ends or stops, where it goes
+//! on, and the parts that several of them share.
 //!
 //! A statement is run from its beginning, or from where it stood, up to its end or to a wait (`Stop`, `Rest`); it
 //! may also ask that what it did so far is committed (`Ending`). What it does is put together of parts, one after
@@ -10,6 +10,7 @@
 //! whole statement owes to the executor above.
 #![tactic(auto)]
 
+mod attempt;
 mod below;
 mod caller;
 mod ending;
@@ -25,6 +26,7 @@ mod rest;
 mod scopes;
 mod stop;
 
+pub use attempt::Attempt;
 pub use below::tables_below;
 pub use caller::Caller;
 pub use ending::{Ending, ended};

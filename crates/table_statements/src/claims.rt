@@ -17,8 +17,7 @@ ghost use Rattle.table_statements.specs.Claims as claims;
 use history::WaitOn;
 use part_ddl::check_name;
 use pg_values::SessionSet;
-use statement_steps::{Caller, SessionNames, Stop, wait_for};
-use std::alloc::Global;
+use statement_steps::{Attempt, Stop, wait_for};
 use stores::Stores;
 
 // The session alone.
@@ -31,26 +30,18 @@ fn only(session: u32) -> SessionSet
 
 // A part: no other open transaction has given the name to a table, or its end is waited for, and the statement
 // begins anew then.
-fn wait_for_name(
-    alloc: Global,
-    stores: &mut Stores,
-    names: &SessionNames,
-    caller: Caller,
-    name: &[u8],
-) -> Result<(), Stop>
-    requires may { MayAttempt stores.old caller }
-    ensures step { IsStep (λ u. u) result stores.old stores.new caller caller.cmd (claims.name_waited names.now caller.session name.now) }
-    ensures unclaimed { IfOk result (λ u. (h : History) → TableStands stores.new.txs h → CatalogueStands stores.new.catalog h → taken_by h caller.session name.now ≡ None) }
+fn wait_for_name(attempt: &Attempt<'_>, stores: &mut Stores, name: &[u8]) -> Result<(), Stop>
+    requires may { MayAttempt stores.old attempt.now.caller }
+    ensures step { IsStep (λ u. u) result stores.old stores.new attempt.now.caller attempt.now.caller.cmd (claims.name_waited attempt.now.names.now attempt.now.caller.session name.now) }
+    ensures unclaimed { IfOk result (λ u. (h : History) → TableStands stores.new.txs h → CatalogueStands stores.new.catalog h → taken_by h attempt.now.caller.session name.now ≡ None) }
     ensures rest { stores.new ≡ record stores.old { locks = stores.new.locks } }
 {
-    match stores
-        .catalog
-        .name_taken_by(&stores.txs, caller.session, name)
-    {
+    let session = attempt.caller.session;
+    match stores.catalog.name_taken_by(&stores.txs, session, name) {
         None => Ok(()),
         Some(other) => {
             let set = only(other);
-            wait_for(alloc, stores, names, caller, WaitOn::Ends(set), None)
+            wait_for(attempt, stores, WaitOn::Ends(set), None)
         }
     }
 }
@@ -58,17 +49,16 @@ fn wait_for_name(
 /// A part: a new table may get the name. No table has it that is there for the session (42P07), and no other
 /// open transaction has given it to one: else the session waits for the end of that one.
 pub(crate) fn claim_name(
-    alloc: Global,
+    attempt: &Attempt<'_>,
     stores: &mut Stores,
-    names: &SessionNames,
-    caller: Caller,
     name: &[u8],
 ) -> Result<(), Stop>
-    requires may { MayAttempt stores.old caller }
-    ensures step { IsStep (λ u. u) result stores.old stores.new caller caller.cmd (claims.name_claimed names.now caller.session name.now) }
-    ensures free { IfOk result (λ u. (h : History) → TableStands stores.new.txs h → CatalogueStands stores.new.catalog h → IsFree h caller.session name.now) }
+    requires may { MayAttempt stores.old attempt.now.caller }
+    ensures step { IsStep (λ u. u) result stores.old stores.new attempt.now.caller attempt.now.caller.cmd (claims.name_claimed attempt.now.names.now attempt.now.caller.session name.now) }
+    ensures free { IfOk result (λ u. (h : History) → TableStands stores.new.txs h → CatalogueStands stores.new.catalog h → IsFree h attempt.now.caller.session name.now) }
     ensures rest { stores.new ≡ record stores.old { locks = stores.new.locks } }
 {
-    check_name(alloc, &stores.catalog, &stores.txs, caller.session, name)?;
-    wait_for_name(alloc, stores, names, caller, name)
+    let session = attempt.caller.session;
+    check_name(attempt.alloc, &stores.catalog, &stores.txs, session, name)?;
+    wait_for_name(attempt, stores, name)
 }

@@ -23,7 +23,7 @@ use part_catalog::Catalog;
 use part_ddl::{default_of, drop_table};
 use pg_values::{LockMode, NoMemory, PgText, TableNo};
 use soundness::legal_keeps_all;
-use statement_steps::{Caller, SessionNames, Stop, find_table, hold_if_repeatable, lock_tables};
+use statement_steps::{Attempt, Stop, find_table, hold_if_repeatable, lock_tables};
 use std::alloc::Global;
 use stores::{Stores, trees_are_together};
 use tx_table::TxTable;
@@ -80,52 +80,38 @@ fn tables_to_lock(
 }
 
 // What the drop of a table needs is locked.
-fn lock_for(
-    alloc: Global,
-    stores: &mut Stores,
-    names: &SessionNames,
-    caller: Caller,
-    table: TableNo,
-) -> Result<(), Stop>
-    requires may { MayAttempt stores.old caller }
+fn lock_for(attempt: &Attempt<'_>, stores: &mut Stores, table: TableNo) -> Result<(), Stop>
+    requires may { MayAttempt stores.old attempt.now.caller }
     requires few { length stores.old.catalog.tables ≤ 4096 }
-    requires known { IsKnownTo stores.old caller.session table.number }
-    ensures step { IsStep (λ u. u) result stores.old stores.new caller caller.cmd (drops.drop_locked names.now caller.session table.number) }
-    ensures drop { IfOk result (λ u. MayDropTable stores.new caller.session table) }
+    requires known { IsKnownTo stores.old attempt.now.caller.session table.number }
+    ensures step { IsStep (λ u. u) result stores.old stores.new attempt.now.caller attempt.now.caller.cmd (drops.drop_locked attempt.now.names.now attempt.now.caller.session table.number) }
+    ensures drop { IfOk result (λ u. MayDropTable stores.new attempt.now.caller.session table) }
     ensures rest { stores.new ≡ record stores.old { locks = stores.new.locks } }
 {
+    let session = attempt.caller.session;
     trees_are_together();
     listed_is_there();
     there_is_known();
     tree_is_whole();
     legal_keeps_all();
-    let tables = tables_to_lock(alloc, &stores.catalog, &stores.txs, caller.session, table)?;
-    lock_tables(
-        alloc,
-        stores,
-        names,
-        caller,
-        &tables,
-        LockMode::AccessExclusive,
-    )
+    let tables = tables_to_lock(attempt.alloc, &stores.catalog, &stores.txs, session, table)?;
+    lock_tables(attempt, stores, &tables, LockMode::AccessExclusive)
 }
 
 // A part: a named table, where it is there, and what its drop needs is locked.
 fn lock_to_drop(
-    alloc: Global,
+    attempt: &Attempt<'_>,
     stores: &mut Stores,
-    names: &SessionNames,
-    caller: Caller,
     name: &[u8],
 ) -> Result<Option<TableNo>, Stop>
-    requires may { MayAttempt stores.old caller }
+    requires may { MayAttempt stores.old attempt.now.caller }
     requires few { length stores.old.catalog.tables ≤ 4096 }
-    ensures step { IsStep one_or_none result stores.old stores.new caller caller.cmd (drops.found_one names.now caller.session false name.now) }
-    ensures drop { IfOk result (λ found. (t : TableNo) → found ≡ Some t → MayDropTable stores.new caller.session t) }
+    ensures step { IsStep one_or_none result stores.old stores.new attempt.now.caller attempt.now.caller.cmd (drops.found_one attempt.now.names.now attempt.now.caller.session false name.now) }
+    ensures drop { IfOk result (λ found. (t : TableNo) → found ≡ Some t → MayDropTable stores.new attempt.now.caller.session t) }
     ensures rest { stores.new ≡ record stores.old { locks = stores.new.locks } }
 {
-    let table = find_table(alloc, stores, caller, name)?;
-    lock_for(alloc, stores, names, caller, table)?;
+    let table = find_table(attempt, stores, name)?;
+    lock_for(attempt, stores, table)?;
     Ok(Some(table))
 }
 
@@ -144,43 +130,40 @@ fn is_passed_over(
 
 // The same, where an absent one is passed over.
 fn lock_if_there(
-    alloc: Global,
+    attempt: &Attempt<'_>,
     stores: &mut Stores,
-    names: &SessionNames,
-    caller: Caller,
     if_there: bool,
     name: &[u8],
 ) -> Result<Option<TableNo>, Stop>
-    requires may { MayAttempt stores.old caller }
+    requires may { MayAttempt stores.old attempt.now.caller }
     requires few { length stores.old.catalog.tables ≤ 4096 }
-    ensures step { IsStep one_or_none result stores.old stores.new caller caller.cmd (drops.found_one names.now caller.session if_there name.now) }
-    ensures drop { IfOk result (λ found. (t : TableNo) → found ≡ Some t → MayDropTable stores.new caller.session t) }
+    ensures step { IsStep one_or_none result stores.old stores.new attempt.now.caller attempt.now.caller.cmd (drops.found_one attempt.now.names.now attempt.now.caller.session if_there name.now) }
+    ensures drop { IfOk result (λ found. (t : TableNo) → found ≡ Some t → MayDropTable stores.new attempt.now.caller.session t) }
     ensures rest { stores.new ≡ record stores.old { locks = stores.new.locks } }
 {
-    if is_passed_over(&stores.catalog, &stores.txs, caller.session, if_there, name) {
+    let session = attempt.caller.session;
+    if is_passed_over(&stores.catalog, &stores.txs, session, if_there, name) {
         return Ok(None);
     }
-    lock_to_drop(alloc, stores, names, caller, name)
+    lock_to_drop(attempt, stores, name)
 }
 
 // A part: all named tables.
 fn lock_all_to_drop(
-    alloc: Global,
+    attempt: &Attempt<'_>,
     stores: &mut Stores,
-    names: &SessionNames,
-    caller: Caller,
     if_there: bool,
     tables: &[PgText],
 ) -> Result<Vec<TableNo>, Stop>
-    requires may { MayAttempt stores.old caller }
+    requires may { MayAttempt stores.old attempt.now.caller }
     requires few { length stores.old.catalog.tables ≤ 4096 }
-    ensures step { IsStep numbers result stores.old stores.new caller caller.cmd (drops.found_all names.now caller.session if_there tables.now) }
-    ensures drop { IfOk result (λ found. All (MayDropTable stores.new caller.session) found.items) }
+    ensures step { IsStep numbers result stores.old stores.new attempt.now.caller attempt.now.caller.cmd (drops.found_all attempt.now.names.now attempt.now.caller.session if_there tables.now) }
+    ensures drop { IfOk result (λ found. All (MayDropTable stores.new attempt.now.caller.session) found.items) }
 {
-    let mut found = Vec::new(alloc);
+    let mut found = Vec::new(attempt.alloc);
     let mut left = tables;
     while let Some((name, others)) = left.split_first() {
-        let table = lock_if_there(alloc, stores, names, caller, if_there, name.as_bytes())?;
+        let table = lock_if_there(attempt, stores, if_there, name.as_bytes())?;
         push_if_some(&mut found, table)?;
         left = others;
     }
@@ -200,14 +183,13 @@ fn is_left(catalog: &Catalog, txs: &TxTable, session: u32, table: TableNo) -> bo
 
 // One table goes with those under it, unless it has gone with another one before.
 fn drop_one(
-    alloc: Global,
+    attempt: &Attempt<'_>,
     stores: &mut Stores,
-    caller: Caller,
     by: TxId,
     table: TableNo,
 ) -> Result<(), NoMemory>
-    requires { MayGo stores.old caller by table.number }
-    ensures ok { OnOk result ((h : History) → Stands stores.old h → IsGoing h caller by table.number → Stands stores.new ((drops.dropped_one caller table.number h).events ++ h)) }
+    requires { MayGo stores.old attempt.now.caller by table.number }
+    ensures ok { OnOk result ((h : History) → Stands stores.old h → IsGoing h attempt.now.caller by table.number → Stands stores.new ((drops.dropped_one attempt.now.caller table.number h).events ++ h)) }
     ensures rest { stores.new ≡ record stores.old { catalog = stores.new.catalog } }
 {
     named_is_there();
@@ -215,30 +197,25 @@ fn drop_one(
     table_drop_may_follow();
     locked_tables_may_go();
     let Stores { txs, catalog, .. } = stores;
-    if !is_left(catalog, txs, caller.session, table) {
+    if !is_left(catalog, txs, attempt.caller.session, table) {
         return Ok(());
     }
-    drop_table(alloc, catalog, txs, table, by, caller.cmd)
+    drop_table(attempt.alloc, catalog, txs, table, by, attempt.caller.cmd)
 }
 
 // The last part: the tables go, one after the other.
-fn drop_all(
-    alloc: Global,
-    stores: &mut Stores,
-    caller: Caller,
-    tables: &[TableNo],
-) -> Result<(), Stop>
-    requires may { MayAttempt stores.old caller }
-    requires drops { All (MayDropTable stores.old caller.session) tables.now }
-    ensures { IsStep (λ u. u) result stores.old stores.new caller (caller.cmd + 1) (drops.dropped_all caller (map (λ t. t.number) tables.now)) }
+fn drop_all(attempt: &Attempt<'_>, stores: &mut Stores, tables: &[TableNo]) -> Result<(), Stop>
+    requires may { MayAttempt stores.old attempt.now.caller }
+    requires drops { All (MayDropTable stores.old attempt.now.caller.session) tables.now }
+    ensures { IsStep (λ u. u) result stores.old stores.new attempt.now.caller (attempt.now.caller.cmd + 1) (drops.dropped_all attempt.now.caller (map (λ t. t.number) tables.now)) }
 {
     tree_is_whole();
-    let Some(by) = stores.txs.open_of(caller.session) else {
+    let Some(by) = stores.txs.open_of(attempt.caller.session) else {
         unreachable!()
     };
     let mut left = tables;
     while let Some((table, others)) = left.split_first() {
-        drop_one(alloc, stores, caller, by, *table)?;
+        drop_one(attempt, stores, by, *table)?;
         left = others;
     }
     Ok(())
@@ -248,18 +225,16 @@ fn drop_all(
 /// ACCESS EXCLUSIVE mode with the table above it, those under it and the default partition beside it. Then
 /// they go, each with the tables under it.
 pub fn drop_tables(
-    alloc: Global,
+    attempt: &Attempt<'_>,
     stores: &mut Stores,
-    names: &SessionNames,
-    caller: Caller,
     if_there: bool,
     tables: &[PgText],
 ) -> Result<(), Stop>
-    requires may { MayAttempt stores.old caller }
+    requires may { MayAttempt stores.old attempt.now.caller }
     requires few { length stores.old.catalog.tables ≤ 4096 }
-    ensures { IsStep (λ u. u) result stores.old stores.new caller (caller.cmd + 1) (dropped names.now caller if_there tables.now) }
+    ensures { IsStep (λ u. u) result stores.old stores.new attempt.now.caller (attempt.now.caller.cmd + 1) (dropped attempt.now.names.now attempt.now.caller if_there tables.now) }
 {
-    hold_if_repeatable(alloc, stores, caller)?;
-    let found = lock_all_to_drop(alloc, stores, names, caller, if_there, tables)?;
-    drop_all(alloc, stores, caller, &found)
+    hold_if_repeatable(attempt, stores)?;
+    let found = lock_all_to_drop(attempt, stores, if_there, tables)?;
+    drop_all(attempt, stores, &found)
 }

@@ -8,8 +8,7 @@ ghost use Rattle.table_statements.specs.SeenLocks.{one_or_none, numbers};
 
 use pg_values::{LockMode, NoMemory, TableNo};
 use sql_ast::LockedTable;
-use statement_steps::{Caller, SessionNames, Stop, lock_named};
-use std::alloc::Global;
+use statement_steps::{Attempt, Stop, lock_named};
 use stores::Stores;
 
 fn push_if_some(tables: &mut Vec<TableNo>, table: Option<TableNo>) -> Result<(), NoMemory>
@@ -34,42 +33,38 @@ fn unless_only(table: TableNo, only: bool) -> Option<TableNo>
 
 // A part: a named table is found and locked, and told where those under it are to be locked too.
 fn lock_one(
-    alloc: Global,
+    attempt: &Attempt<'_>,
     stores: &mut Stores,
-    names: &SessionNames,
-    caller: Caller,
     table: &LockedTable,
     mode: LockMode,
 ) -> Result<Option<TableNo>, Stop>
-    requires may { MayAttempt stores.old caller }
+    requires may { MayAttempt stores.old attempt.now.caller }
     requires few { length stores.old.catalog.tables ≤ 4096 }
-    ensures step { IsStep one_or_none result stores.old stores.new caller caller.cmd (locked.one_named names.now caller.session mode table.now) }
-    ensures known { IfOk result (λ found. IfSome found (λ t. IsKnownTo stores.new caller.session t.number)) }
+    ensures step { IsStep one_or_none result stores.old stores.new attempt.now.caller attempt.now.caller.cmd (locked.one_named attempt.now.names.now attempt.now.caller.session mode table.now) }
+    ensures known { IfOk result (λ found. IfSome found (λ t. IsKnownTo stores.new attempt.now.caller.session t.number)) }
     ensures rest { stores.new ≡ record stores.old { locks = stores.new.locks } }
 {
-    let found = lock_named(alloc, stores, names, caller, table.name.as_bytes(), mode)?;
+    let found = lock_named(attempt, stores, table.name.as_bytes(), mode)?;
     Ok(unless_only(found, table.only))
 }
 
 /// The named tables are found and locked, in their order. Those without ONLY are told.
 pub(crate) fn lock_all(
-    alloc: Global,
+    attempt: &Attempt<'_>,
     stores: &mut Stores,
-    names: &SessionNames,
-    caller: Caller,
     tables: &[LockedTable],
     mode: LockMode,
 ) -> Result<Vec<TableNo>, Stop>
-    requires may { MayAttempt stores.old caller }
+    requires may { MayAttempt stores.old attempt.now.caller }
     requires few { length stores.old.catalog.tables ≤ 4096 }
-    ensures step { IsStep numbers result stores.old stores.new caller caller.cmd (locked.all_named names.now caller.session mode tables.now) }
-    ensures known { IfOk result (λ found. All (λ t. IsKnownTo stores.new caller.session t.number) found.items) }
+    ensures step { IsStep numbers result stores.old stores.new attempt.now.caller attempt.now.caller.cmd (locked.all_named attempt.now.names.now attempt.now.caller.session mode tables.now) }
+    ensures known { IfOk result (λ found. All (λ t. IsKnownTo stores.new attempt.now.caller.session t.number) found.items) }
     ensures rest { stores.new ≡ record stores.old { locks = stores.new.locks } }
 {
-    let mut whole = Vec::new(alloc);
+    let mut whole = Vec::new(attempt.alloc);
     let mut left = tables;
     while let Some((table, others)) = left.split_first() {
-        let found = lock_one(alloc, stores, names, caller, table, mode)?;
+        let found = lock_one(attempt, stores, table, mode)?;
         push_if_some(&mut whole, found)?;
         left = others;
     }

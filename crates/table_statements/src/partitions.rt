@@ -38,7 +38,7 @@ use part_ddl::{
 use pg_values::{LockMode, PgText, Refusal, SessionSet, TableNo};
 use soundness::sessions_have_siblings;
 use sql_ast::{BoundText, Partitioning};
-use statement_steps::{Caller, SessionNames, Stop, hold_if_repeatable, lock_named};
+use statement_steps::{Attempt, Stop, hold_if_repeatable, lock_named};
 use std::alloc::Global;
 use stores::{Stores, leaves_are_housed, trees_are_together};
 use table_binder::bind_bound;
@@ -78,42 +78,43 @@ fn place_of(
 
 // A part: the place of the partition.
 fn place_found(
-    alloc: Global,
+    attempt: &Attempt<'_>,
     stores: &Stores,
-    caller: Caller,
     parent: TableNo,
     bound: &BoundText,
     by: &Option<Partitioning>,
 ) -> Result<Place, Stop>
-    requires may { MayAttempt stores.now caller }
+    requires may { MayAttempt stores.now attempt.now.caller }
     requires known { parent.number < length stores.now.catalog.tables }
-    ensures step { IsStep seen_place result stores.now stores.now caller caller.cmd (partitions.place_found caller.session parent.number (bound_tree bound.now) by.now) }
+    ensures step { IsStep seen_place result stores.now stores.now attempt.now.caller attempt.now.caller.cmd (partitions.place_found attempt.now.caller.session parent.number (bound_tree bound.now) by.now) }
     ensures few { IfOk result (λ place. (h : History) → CatalogueStands stores.now.catalog h → count_faults h ≡ []) }
-    ensures may { IfOk result (λ place. (h : History) → TableStands stores.now.txs h → CatalogueStands stores.now.catalog h → MayBePlaced h caller.session parent.number place.bound place.level) }
+    ensures may { IfOk result (λ place. (h : History) → TableStands stores.now.txs h → CatalogueStands stores.now.catalog h → MayBePlaced h attempt.now.caller.session parent.number place.bound place.level) }
 {
+    let session = attempt.caller.session;
     trees_are_together();
     let Stores { txs, catalog, .. } = stores;
-    let place = place_of(alloc, catalog, txs, caller.session, parent, bound, by)?;
+    let place = place_of(attempt.alloc, catalog, txs, session, parent, bound, by)?;
     Ok(place)
 }
 
 // The last part: the table is made, and gets its place.
 fn make_placed(
-    alloc: Global,
+    attempt: &Attempt<'_>,
     stores: &mut Stores,
-    caller: Caller,
     name: PgText,
     parent: TableNo,
     place: Place,
 ) -> Result<(), Stop>
-    requires may { MayAttempt stores.old caller }
-    requires parent { IsLockedNamed stores.old caller.session parent.number }
-    requires default { HasDefaultLocked stores.old caller.session parent.number }
-    requires clean { HasDefaultClean stores.old caller.session parent.number place.bound name }
-    requires free { (h : History) → TableStands stores.old.txs h → CatalogueStands stores.old.catalog h → MayBeMade h caller.session name }
-    requires placed { (h : History) → TableStands stores.old.txs h → CatalogueStands stores.old.catalog h → MayBePlaced h caller.session parent.number place.bound place.level }
-    ensures { IsStep (λ u. u) result stores.old stores.new caller (caller.cmd + 1) (partitions.partition_made caller name parent.number (seen_place place)) }
+    requires may { MayAttempt stores.old attempt.now.caller }
+    requires parent { IsLockedNamed stores.old attempt.now.caller.session parent.number }
+    requires default { HasDefaultLocked stores.old attempt.now.caller.session parent.number }
+    requires clean { HasDefaultClean stores.old attempt.now.caller.session parent.number place.bound name }
+    requires free { (h : History) → TableStands stores.old.txs h → CatalogueStands stores.old.catalog h → MayBeMade h attempt.now.caller.session name }
+    requires placed { (h : History) → TableStands stores.old.txs h → CatalogueStands stores.old.catalog h → MayBePlaced h attempt.now.caller.session parent.number place.bound place.level }
+    ensures { IsStep (λ u. u) result stores.old stores.new attempt.now.caller (attempt.now.caller.cmd + 1) (partitions.partition_made attempt.now.caller name parent.number (seen_place place)) }
 {
+    let alloc = attempt.alloc;
+    let cmd = attempt.caller.cmd;
     new_leaf_may_follow();
     new_level_may_follow();
     leaves_are_housed();
@@ -122,7 +123,7 @@ fn make_placed(
     named_is_there();
     sessions_have_siblings();
     none_breaks();
-    let Some(by) = stores.txs.open_of(caller.session) else {
+    let Some(by) = stores.txs.open_of(attempt.caller.session) else {
         unreachable!()
     };
     let Place { bound, level } = place;
@@ -133,65 +134,62 @@ fn make_placed(
         ..
     } = stores;
     make_partition(
-        alloc, catalog, rows, txs, name, parent, bound, level, by, caller.cmd,
+        alloc, catalog, rows, txs, name, parent, bound, level, by, cmd,
     )?;
     Ok(())
 }
 
 // The rows of the default partition are judged. The tree of the parent is built only where there is one.
 fn judge_beside(
-    alloc: Global,
+    attempt: &Attempt<'_>,
     stores: &Stores,
-    caller: Caller,
     parent: TableNo,
     bound: &Bound,
     name: &[u8],
 ) -> Result<SessionSet, Refusal>
-    requires may { MayAttempt stores.now caller }
+    requires may { MayAttempt stores.now attempt.now.caller }
     requires known { parent.number < length stores.now.catalog.tables }
     requires takes { (h : History) → CatalogueStands stores.now.catalog h → TakesBound (made_at h parent.number).shape bound.now }
-    ensures answer { (h : History) → DataStand stores.now h → IsAnswer result (judged h caller.session (default_scan h caller.session parent.number bound.now name.now (below.default_of h caller.session parent.number))) }
-    ensures all { IfOk result (λ others. (h : History) → DataStand stores.now h → (r : ℕ) → has others r ≡ watches h caller.session (default_scan h caller.session parent.number bound.now name.now (below.default_of h caller.session parent.number)) r) }
+    ensures answer { (h : History) → DataStand stores.now h → IsAnswer result (judged h attempt.now.caller.session (default_scan h attempt.now.caller.session parent.number bound.now name.now (below.default_of h attempt.now.caller.session parent.number))) }
+    ensures all { IfOk result (λ others. (h : History) → DataStand stores.now h → (r : ℕ) → has others r ≡ watches h attempt.now.caller.session (default_scan h attempt.now.caller.session parent.number bound.now name.now (below.default_of h attempt.now.caller.session parent.number)) r) }
 {
     trees_are_together();
     let Stores { txs, catalog, .. } = stores;
-    match default_of(catalog, txs, parent, caller.session) {
+    match default_of(catalog, txs, parent, attempt.caller.session) {
         None => Ok(SessionSet::empty()),
         Some(_) => {
-            let tree = catalog.ddl_tree(alloc, txs, parent, caller.session)?;
-            judge_default(alloc, stores, caller, parent, &tree, bound, name)
+            let tree = catalog.ddl_tree(attempt.alloc, txs, parent, attempt.caller.session)?;
+            judge_default(attempt, stores, parent, &tree, bound, name)
         }
     }
 }
 
 // A part: no row of the default partition belongs to the new one.
 fn scan_default(
-    alloc: Global,
+    attempt: &Attempt<'_>,
     stores: &mut Stores,
-    names: &SessionNames,
-    caller: Caller,
     name: &[u8],
     parent: TableNo,
     place: &Place,
 ) -> Result<(), Stop>
-    requires may { MayAttempt stores.old caller }
+    requires may { MayAttempt stores.old attempt.now.caller }
     requires known { parent.number < length stores.old.catalog.tables }
     requires takes { (h : History) → CatalogueStands stores.old.catalog h → TakesBound (made_at h parent.number).shape place.now.bound }
-    ensures step { IsStep (λ u. u) result stores.old stores.new caller caller.cmd (partitions.default_scanned names.now caller.session parent.number place.now.bound name.now) }
-    ensures clean { IfOk result (λ u. HasDefaultClean stores.new caller.session parent.number place.now.bound name.now) }
+    ensures step { IsStep (λ u. u) result stores.old stores.new attempt.now.caller attempt.now.caller.cmd (partitions.default_scanned attempt.now.names.now attempt.now.caller.session parent.number place.now.bound name.now) }
+    ensures clean { IfOk result (λ u. HasDefaultClean stores.new attempt.now.caller.session parent.number place.now.bound name.now) }
     ensures rest { stores.new ≡ record stores.old { locks = stores.new.locks } }
 {
-    let judged = judge_beside(alloc, stores, caller, parent, &place.bound, name);
-    wait_for_snapshots(alloc, stores, names, caller, judged)
+    let judged = judge_beside(attempt, stores, parent, &place.bound, name);
+    wait_for_snapshots(attempt, stores, judged)
 }
 
 // A part: the parent is partitioned.
-fn check_parent(alloc: Global, stores: &Stores, caller: Caller, parent: TableNo) -> Result<(), Stop>
-    requires may { MayAttempt stores.now caller }
+fn check_parent(attempt: &Attempt<'_>, stores: &Stores, parent: TableNo) -> Result<(), Stop>
+    requires may { MayAttempt stores.now attempt.now.caller }
     requires known { parent.number < length stores.now.catalog.tables }
-    ensures { IsStep (λ u. u) result stores.now stores.now caller caller.cmd (partitions.parent_tested parent.number) }
+    ensures { IsStep (λ u. u) result stores.now stores.now attempt.now.caller attempt.now.caller.cmd (partitions.parent_tested parent.number) }
 {
-    parent_level(alloc, &stores.catalog, parent)?;
+    parent_level(attempt.alloc, &stores.catalog, parent)?;
     Ok(())
 }
 
@@ -201,28 +199,26 @@ fn check_parent(alloc: Global, stores: &Stores, caller: Caller, parent: TableNo)
 /// refused with 54000 for tables, for its bound, for its own key, and with a row of the default partition that
 /// belongs to it. Where only the open snapshots of other sessions see such a row it waits until they have gone.
 pub fn create_partition(
-    alloc: Global,
+    attempt: &Attempt<'_>,
     stores: &mut Stores,
-    names: &SessionNames,
-    caller: Caller,
     name: &PgText,
     parent: &PgText,
     bound: &BoundText,
     by: &Option<Partitioning>,
 ) -> Result<(), Stop>
-    requires may { MayAttempt stores.old caller }
+    requires may { MayAttempt stores.old attempt.now.caller }
     requires few { length stores.old.catalog.tables ≤ 4096 }
-    ensures { IsStep (λ u. u) result stores.old stores.new caller (caller.cmd + 1) (partitioned names.now caller name.now parent.now (bound_tree bound.now) by.now) }
+    ensures { IsStep (λ u. u) result stores.old stores.new attempt.now.caller (attempt.now.caller.cmd + 1) (partitioned attempt.now.names.now attempt.now.caller name.now parent.now (bound_tree bound.now) by.now) }
 {
     let mode = LockMode::AccessExclusive;
     let text = name.as_bytes();
-    hold_if_repeatable(alloc, stores, caller)?;
-    let parent = lock_named(alloc, stores, names, caller, parent.as_bytes(), mode)?;
-    lock_default(alloc, stores, names, caller, parent)?;
-    check_parent(alloc, stores, caller, parent)?;
-    claim_name(alloc, stores, names, caller, text)?;
-    let place = place_found(alloc, stores, caller, parent, bound, by)?;
-    scan_default(alloc, stores, names, caller, text, parent, &place)?;
-    let copy = name.copy(alloc)?;
-    make_placed(alloc, stores, caller, copy, parent, place)
+    hold_if_repeatable(attempt, stores)?;
+    let parent = lock_named(attempt, stores, parent.as_bytes(), mode)?;
+    lock_default(attempt, stores, parent)?;
+    check_parent(attempt, stores, parent)?;
+    claim_name(attempt, stores, text)?;
+    let place = place_found(attempt, stores, parent, bound, by)?;
+    scan_default(attempt, stores, text, parent, &place)?;
+    let copy = name.copy(attempt.alloc)?;
+    make_placed(attempt, stores, copy, parent, place)
 }

@@ -20,7 +20,7 @@ use part_catalog::Catalog;
 use part_ddl::{check_count, make_table};
 use pg_values::{PgText, Refusal};
 use sql_ast::{ColumnList, Partitioning};
-use statement_steps::{Caller, SessionNames, Stop, hold_if_repeatable};
+use statement_steps::{Attempt, Stop, hold_if_repeatable};
 use std::alloc::Global;
 use stores::{Stores, leaves_are_housed};
 use table_binder::{bind_columns, bind_partitioning};
@@ -76,43 +76,42 @@ fn plan_of(
 
 // A part: what the table has, and that there is room for it.
 fn planned(
-    alloc: Global,
+    attempt: &Attempt<'_>,
     stores: &Stores,
-    caller: Caller,
     definitions: &ColumnList,
     by: &Option<Partitioning>,
 ) -> Result<Plan, Stop>
-    requires { MayAttempt stores.now caller }
-    ensures step { IsStep seen_plan result stores.now stores.now caller caller.cmd (tables.planned definitions.now by.now) }
+    requires { MayAttempt stores.now attempt.now.caller }
+    ensures step { IsStep seen_plan result stores.now stores.now attempt.now.caller attempt.now.caller.cmd (tables.planned definitions.now by.now) }
     ensures fit { IfOk result (λ plan. KeysFit plan.columns plan.level) }
     ensures few { IfOk result (λ plan. (h : History) → CatalogueStands stores.now.catalog h → count_faults h ≡ []) }
 {
-    let plan = plan_of(alloc, &stores.catalog, definitions, by)?;
+    let plan = plan_of(attempt.alloc, &stores.catalog, definitions, by)?;
     Ok(plan)
 }
 
 // The last part: the table is made.
 fn make_planned(
-    alloc: Global,
+    attempt: &Attempt<'_>,
     stores: &mut Stores,
-    caller: Caller,
     name: PgText,
     plan: Plan,
 ) -> Result<(), Stop>
-    requires may { MayAttempt stores.old caller }
+    requires may { MayAttempt stores.old attempt.now.caller }
     requires fit { KeysFit plan.columns plan.level }
-    requires free { (h : History) → TableStands stores.old.txs h → CatalogueStands stores.old.catalog h → MayBeMade h caller.session name }
-    ensures { IsStep (λ u. u) result stores.old stores.new caller (caller.cmd + 1) (tables.table_made caller name (seen_plan plan)) }
+    requires free { (h : History) → TableStands stores.old.txs h → CatalogueStands stores.old.catalog h → MayBeMade h attempt.now.caller.session name }
+    ensures { IsStep (λ u. u) result stores.old stores.new attempt.now.caller (attempt.now.caller.cmd + 1) (tables.table_made attempt.now.caller name (seen_plan plan)) }
 {
+    let cmd = attempt.caller.cmd;
     new_leaf_may_follow();
     new_level_may_follow();
     leaves_are_housed();
-    let Some(by) = stores.txs.open_of(caller.session) else {
+    let Some(by) = stores.txs.open_of(attempt.caller.session) else {
         unreachable!()
     };
     let Plan { columns, level } = plan;
     let Stores { rows, catalog, .. } = stores;
-    make_table(alloc, catalog, rows, name, columns, level, by, caller.cmd)?;
+    make_table(attempt.alloc, catalog, rows, name, columns, level, by, cmd)?;
     Ok(())
 }
 
@@ -120,20 +119,18 @@ fn make_planned(
 /// where another open transaction has made one, and is then refused with 54000 for tables and columns,
 /// 42701, 42704, and for its key: 42P16, 54000, 42703.
 pub fn create_table(
-    alloc: Global,
+    attempt: &Attempt<'_>,
     stores: &mut Stores,
-    names: &SessionNames,
-    caller: Caller,
     name: &PgText,
     columns: &ColumnList,
     by: &Option<Partitioning>,
 ) -> Result<(), Stop>
-    requires { MayAttempt stores.old caller }
-    ensures { IsStep (λ u. u) result stores.old stores.new caller (caller.cmd + 1) (created names.now caller name.now columns.now by.now) }
+    requires { MayAttempt stores.old attempt.now.caller }
+    ensures { IsStep (λ u. u) result stores.old stores.new attempt.now.caller (attempt.now.caller.cmd + 1) (created attempt.now.names.now attempt.now.caller name.now columns.now by.now) }
 {
-    hold_if_repeatable(alloc, stores, caller)?;
-    claim_name(alloc, stores, names, caller, name.as_bytes())?;
-    let plan = planned(alloc, stores, caller, columns, by)?;
-    let copy = name.copy(alloc)?;
-    make_planned(alloc, stores, caller, copy, plan)
+    hold_if_repeatable(attempt, stores)?;
+    claim_name(attempt, stores, name.as_bytes())?;
+    let plan = planned(attempt, stores, columns, by)?;
+    let copy = name.copy(attempt.alloc)?;
+    make_planned(attempt, stores, copy, plan)
 }

@@ -6,46 +6,42 @@ ghost use Rattle.table_statements.specs.Locked as locked;
 
 use part_ddl::tables_below;
 use pg_values::{LockMode, TableNo};
-use statement_steps::{Caller, SessionNames, Stop, lock_tables};
-use std::alloc::Global;
+use statement_steps::{Attempt, Stop, lock_tables};
 use stores::Stores;
 
 // A part: the tables under one are locked.
 fn lock_below(
-    alloc: Global,
+    attempt: &Attempt<'_>,
     stores: &mut Stores,
-    names: &SessionNames,
-    caller: Caller,
     table: TableNo,
     mode: LockMode,
 ) -> Result<(), Stop>
-    requires may { MayAttempt stores.old caller }
+    requires may { MayAttempt stores.old attempt.now.caller }
     requires few { length stores.old.catalog.tables ≤ 4096 }
-    requires known { IsKnownTo stores.old caller.session table.number }
-    ensures step { IsStep (λ u. u) result stores.old stores.new caller caller.cmd (locked.one_under names.now caller.session mode table.number) }
+    requires known { IsKnownTo stores.old attempt.now.caller.session table.number }
+    ensures step { IsStep (λ u. u) result stores.old stores.new attempt.now.caller attempt.now.caller.cmd (locked.one_under attempt.now.names.now attempt.now.caller.session mode table.number) }
     ensures rest { stores.new ≡ record stores.old { locks = stores.new.locks } }
 {
-    let tables = tables_below(alloc, &stores.catalog, &stores.txs, table, caller.session)?;
-    lock_tables(alloc, stores, names, caller, &tables, mode)
+    let session = attempt.caller.session;
+    let tables = tables_below(attempt.alloc, &stores.catalog, &stores.txs, table, session)?;
+    lock_tables(attempt, stores, &tables, mode)
 }
 
 /// The tables under each of these are locked, in their order.
 pub(crate) fn lock_all_below(
-    alloc: Global,
+    attempt: &Attempt<'_>,
     stores: &mut Stores,
-    names: &SessionNames,
-    caller: Caller,
     tables: &[TableNo],
     mode: LockMode,
 ) -> Result<(), Stop>
-    requires may { MayAttempt stores.old caller }
+    requires may { MayAttempt stores.old attempt.now.caller }
     requires few { length stores.old.catalog.tables ≤ 4096 }
-    requires known { All (λ t. IsKnownTo stores.old caller.session t.number) tables.now }
-    ensures { IsStep (λ u. u) result stores.old stores.new caller caller.cmd (locked.all_under names.now caller.session mode (map (λ t. t.number) tables.now)) }
+    requires known { All (λ t. IsKnownTo stores.old attempt.now.caller.session t.number) tables.now }
+    ensures { IsStep (λ u. u) result stores.old stores.new attempt.now.caller attempt.now.caller.cmd (locked.all_under attempt.now.names.now attempt.now.caller.session mode (map (λ t. t.number) tables.now)) }
 {
     let mut left = tables;
     while let Some((table, others)) = left.split_first() {
-        lock_below(alloc, stores, names, caller, *table, mode)?;
+        lock_below(attempt, stores, *table, mode)?;
         left = others;
     }
     Ok(())

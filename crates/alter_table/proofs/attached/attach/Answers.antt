@@ -29,8 +29,8 @@ tables_from-requires-clause-known c = c.in_ok-table.ensures.known.made
 
 pub tables_from-requires-clause-siblings : goal.tables_from-requires-clause-siblings
 tables_from-requires-clause-siblings c =
-    let may : MayAttempt c.lock_named-2.new.stores c.args.caller = may_go_on _ _ _ _ _ _ (may_go_on _ _ _ _ _ _ (may_go_on _ _ _ _ _ _ c.requires.may c.in_ok-hold_if_repeatable.ensures.step) c.in_ok-parent.ensures.step) c.in_ok-table.ensures.step in
-    c.trees_are_together.ensures c.lock_named-2.new.stores may.sound.0 c.args.caller.session may.sound.1
+    let may : MayAttempt c.lock_named-2.new.stores c.args.attempt.now.caller = may_go_on _ _ _ _ _ _ (may_go_on _ _ _ _ _ _ (may_go_on _ _ _ _ _ _ c.requires.may c.in_ok-hold_if_repeatable.ensures.step) c.in_ok-parent.ensures.step) c.in_ok-table.ensures.step in
+    c.trees_are_together.ensures c.lock_named-2.new.stores may.sound.0 c.args.attempt.now.caller.session may.sound.1
 
 pub lock_family-requires-clause-may : goal.lock_family-requires-clause-may
 lock_family-requires-clause-may c = may_go_on _ _ _ _ _ _ (may_go_on _ _ _ _ _ _ (may_go_on _ _ _ _ _ _ c.requires.may c.in_ok-hold_if_repeatable.ensures.step) c.in_ok-parent.ensures.step) c.in_ok-table.ensures.step
@@ -55,26 +55,26 @@ attach_below-requires-clause-few c =
 
 pub attach_below-requires-clause-parent : goal.attach_below-requires-clause-parent
 attach_below-requires-clause-parent c =
-    still_guarded c.lock_named-2.new.stores c.lock_family.new.stores c.args.caller.session c.lock_family.ensures.rest c.in_ok-parent.parent.number c.in_ok-lock_family.ensures.step.keeps.locks
-    (still_guarded c.lock_named.new.stores c.lock_named-2.new.stores c.args.caller.session c.lock_named-2.ensures.rest c.in_ok-parent.parent.number c.in_ok-table.ensures.step.keeps.locks
-    (named_guarded c.args.names.now c.hold_if_repeatable.new.stores c.lock_named.new.stores c.args.caller c.args.parent.now c.in_ok-parent.parent (may_go_on _ _ _ _ _ _ c.requires.may c.in_ok-hold_if_repeatable.ensures.step) c.lock_named.ensures.rest c.in_ok-parent.ensures.known c.in_ok-parent.ensures.step))
+    still_guarded c.lock_named-2.new.stores c.lock_family.new.stores c.args.attempt.now.caller.session c.lock_family.ensures.rest c.in_ok-parent.parent.number c.in_ok-lock_family.ensures.step.keeps.locks
+    (still_guarded c.lock_named.new.stores c.lock_named-2.new.stores c.args.attempt.now.caller.session c.lock_named-2.ensures.rest c.in_ok-parent.parent.number c.in_ok-table.ensures.step.keeps.locks
+    (named_guarded c.args.attempt.now.names.now c.hold_if_repeatable.new.stores c.lock_named.new.stores c.args.attempt.now.caller c.args.parent.now c.in_ok-parent.parent (may_go_on _ _ _ _ _ _ c.requires.may c.in_ok-hold_if_repeatable.ensures.step) c.lock_named.ensures.rest c.in_ok-parent.ensures.known c.in_ok-parent.ensures.step))
 
 pub attach_below-requires-clause-table : goal.attach_below-requires-clause-table
 attach_below-requires-clause-table c =
-    still_named c.lock_named-2.new.stores c.lock_family.new.stores c.args.caller.session c.in_ok-table.table.number c.lock_family.ensures.rest c.in_ok-lock_family.ensures.step.keeps.locks
-    (named_locked c.args.names.now c.lock_named.new.stores c.lock_named-2.new.stores c.args.caller c.args.name.now c.in_ok-table.table (may_go_on _ _ _ _ _ _ (may_go_on _ _ _ _ _ _ c.requires.may c.in_ok-hold_if_repeatable.ensures.step) c.in_ok-parent.ensures.step) c.lock_named-2.ensures.rest c.in_ok-table.ensures.known c.in_ok-table.ensures.step)
+    still_named c.lock_named-2.new.stores c.lock_family.new.stores c.args.attempt.now.caller.session c.in_ok-table.table.number c.lock_family.ensures.rest c.in_ok-lock_family.ensures.step.keeps.locks
+    (named_locked c.args.attempt.now.names.now c.lock_named.new.stores c.lock_named-2.new.stores c.args.attempt.now.caller c.args.name.now c.in_ok-table.table (may_go_on _ _ _ _ _ _ (may_go_on _ _ _ _ _ _ c.requires.may c.in_ok-hold_if_repeatable.ensures.step) c.in_ok-parent.ensures.step) c.lock_named-2.ensures.rest c.in_ok-table.ensures.known c.in_ok-table.ensures.step)
 
 pub attach_below-requires-clause-family : goal.attach_below-requires-clause-family
 attach_below-requires-clause-family c = c.in_ok-lock_family.ensures.locked
 
 pub attach_below-requires-clause-tables : goal.attach_below-requires-clause-tables
-attach_below-requires-clause-tables c = still_from c.lock_named-2.new.stores c.lock_family.new.stores c.args.caller.session c.lock_family.ensures.rest c.in_ok-table.table.number c.deref-2.result.now (λ h txs catalog. c.deref-2.ensures.value ∙ c.in_ok-tables.ensures h txs catalog)
+attach_below-requires-clause-tables c = still_from c.lock_named-2.new.stores c.lock_family.new.stores c.args.attempt.now.caller.session c.lock_family.ensures.rest c.in_ok-table.table.number c.deref-2.result.now (λ h txs catalog. c.deref-2.ensures.value ∙ c.in_ok-tables.ensures h txs catalog)
 
 pub returns-in_err-parent : goal.returns-in_err-parent
 returns-in_err-parent c =
-    let names = c.args.names.now in
-    let caller = c.args.caller in
-    let s = c.args.caller.session in
+    let names = c.args.attempt.now.names.now in
+    let caller = c.args.attempt.now.caller in
+    let s = c.args.attempt.now.caller.session in
     let b = bound_tree c.args.bound.now in
     handed_on c.from_residual-in_err-parent.ensures.1
     (goes (held_at caller.level s caller.cmd) (λ u. locked_and_attached names caller c.args.parent.now c.args.name.now b) c.in_ok-hold_if_repeatable.ensures.step
@@ -82,9 +82,9 @@ returns-in_err-parent c =
 
 pub returns-in_err-table : goal.returns-in_err-table
 returns-in_err-table c =
-    let names = c.args.names.now in
-    let caller = c.args.caller in
-    let s = c.args.caller.session in
+    let names = c.args.attempt.now.names.now in
+    let caller = c.args.attempt.now.caller in
+    let s = c.args.attempt.now.caller.session in
     let b = bound_tree c.args.bound.now in
     let p = c.in_ok-parent.parent.number in
     handed_on c.from_residual-in_err-table.ensures.1
@@ -94,9 +94,9 @@ returns-in_err-table c =
 
 pub returns-in_err-lock_family : goal.returns-in_err-lock_family
 returns-in_err-lock_family c =
-    let names = c.args.names.now in
-    let caller = c.args.caller in
-    let s = c.args.caller.session in
+    let names = c.args.attempt.now.names.now in
+    let caller = c.args.attempt.now.caller in
+    let s = c.args.attempt.now.caller.session in
     let b = bound_tree c.args.bound.now in
     let p = c.in_ok-parent.parent.number in
     let t = c.in_ok-table.table.number in
@@ -108,9 +108,9 @@ returns-in_err-lock_family c =
 
 pub returns-in_err-tables : goal.returns-in_err-tables
 returns-in_err-tables c =
-    let names = c.args.names.now in
-    let caller = c.args.caller in
-    let s = c.args.caller.session in
+    let names = c.args.attempt.now.names.now in
+    let caller = c.args.attempt.now.caller in
+    let s = c.args.attempt.now.caller.session in
     let b = bound_tree c.args.bound.now in
     goes (held_at caller.level s caller.cmd) (λ u. locked_and_attached names caller c.args.parent.now c.args.name.now b) c.in_ok-hold_if_repeatable.ensures.step
     (goes (named names s ShareUpdateExclusive c.args.parent.now) (λ x. follow (named names s AccessExclusive c.args.name.now) (λ y. table_attached names caller x y b)) c.in_ok-parent.ensures.step
@@ -118,9 +118,9 @@ returns-in_err-tables c =
 
 pub returns : goal.returns
 returns c =
-    let names = c.args.names.now in
-    let caller = c.args.caller in
-    let s = c.args.caller.session in
+    let names = c.args.attempt.now.names.now in
+    let caller = c.args.attempt.now.caller in
+    let s = c.args.attempt.now.caller.session in
     let b = bound_tree c.args.bound.now in
     let p = c.in_ok-parent.parent.number in
     let t = c.in_ok-table.table.number in

@@ -30,8 +30,8 @@ lock_default-requires-clause-few c =
 
 pub lock_default-requires-clause-known : goal.lock_default-requires-clause-known
 lock_default-requires-clause-known c =
-    (still_named c.lock_named.new.stores c.lock_named-2.new.stores c.args.caller.session c.in_ok-parent.parent.number c.lock_named-2.ensures.rest c.in_ok-table.ensures.step.keeps.locks
-    (named_locked c.args.names.now c.hold_if_repeatable.new.stores c.lock_named.new.stores c.args.caller c.args.parent.now c.in_ok-parent.parent (may_go_on _ _ _ _ _ _ c.requires.may c.in_ok-hold_if_repeatable.ensures.step) c.lock_named.ensures.rest c.in_ok-parent.ensures.known c.in_ok-parent.ensures.step)).made
+    (still_named c.lock_named.new.stores c.lock_named-2.new.stores c.args.attempt.now.caller.session c.in_ok-parent.parent.number c.lock_named-2.ensures.rest c.in_ok-table.ensures.step.keeps.locks
+    (named_locked c.args.attempt.now.names.now c.hold_if_repeatable.new.stores c.lock_named.new.stores c.args.attempt.now.caller c.args.parent.now c.in_ok-parent.parent (may_go_on _ _ _ _ _ _ c.requires.may c.in_ok-hold_if_repeatable.ensures.step) c.lock_named.ensures.rest c.in_ok-parent.ensures.known c.in_ok-parent.ensures.step)).made
 
 pub check-requires-clause-may : goal.check-requires-clause-may
 check-requires-clause-may c =
@@ -39,9 +39,9 @@ check-requires-clause-may c =
 
 pub check-requires-clause-parent : goal.check-requires-clause-parent
 check-requires-clause-parent c =
-    (still_named c.lock_named-2.new.stores c.lock_default.new.stores c.args.caller.session c.in_ok-parent.parent.number c.lock_default.ensures.rest c.in_ok-lock_default.ensures.step.keeps.locks
-    (still_named c.lock_named.new.stores c.lock_named-2.new.stores c.args.caller.session c.in_ok-parent.parent.number c.lock_named-2.ensures.rest c.in_ok-table.ensures.step.keeps.locks
-    (named_locked c.args.names.now c.hold_if_repeatable.new.stores c.lock_named.new.stores c.args.caller c.args.parent.now c.in_ok-parent.parent (may_go_on _ _ _ _ _ _ c.requires.may c.in_ok-hold_if_repeatable.ensures.step) c.lock_named.ensures.rest c.in_ok-parent.ensures.known c.in_ok-parent.ensures.step))).made
+    (still_named c.lock_named-2.new.stores c.lock_default.new.stores c.args.attempt.now.caller.session c.in_ok-parent.parent.number c.lock_default.ensures.rest c.in_ok-lock_default.ensures.step.keeps.locks
+    (still_named c.lock_named.new.stores c.lock_named-2.new.stores c.args.attempt.now.caller.session c.in_ok-parent.parent.number c.lock_named-2.ensures.rest c.in_ok-table.ensures.step.keeps.locks
+    (named_locked c.args.attempt.now.names.now c.hold_if_repeatable.new.stores c.lock_named.new.stores c.args.attempt.now.caller c.args.parent.now c.in_ok-parent.parent (may_go_on _ _ _ _ _ _ c.requires.may c.in_ok-hold_if_repeatable.ensures.step) c.lock_named.ensures.rest c.in_ok-parent.ensures.known c.in_ok-parent.ensures.step))).made
 
 pub check-requires-clause-table : goal.check-requires-clause-table
 check-requires-clause-table c = subst (λ (s : Stores). c.in_ok-table.table.number < length s.catalog.tables) (sym c.lock_default.ensures.rest) c.in_ok-table.ensures.known.made
@@ -52,27 +52,27 @@ leave_place-requires-clause-may c =
 
 pub leave_place-requires-clause-locked : goal.leave_place-requires-clause-locked
 leave_place-requires-clause-locked c =
-    (still_named c.lock_named-2.new.stores c.lock_default.new.stores c.args.caller.session c.in_ok-parent.parent.number c.lock_default.ensures.rest c.in_ok-lock_default.ensures.step.keeps.locks
-    (still_named c.lock_named.new.stores c.lock_named-2.new.stores c.args.caller.session c.in_ok-parent.parent.number c.lock_named-2.ensures.rest c.in_ok-table.ensures.step.keeps.locks
-    (named_locked c.args.names.now c.hold_if_repeatable.new.stores c.lock_named.new.stores c.args.caller c.args.parent.now c.in_ok-parent.parent (may_go_on _ _ _ _ _ _ c.requires.may c.in_ok-hold_if_repeatable.ensures.step) c.lock_named.ensures.rest c.in_ok-parent.ensures.known c.in_ok-parent.ensures.step))).locked
+    (still_named c.lock_named-2.new.stores c.lock_default.new.stores c.args.attempt.now.caller.session c.in_ok-parent.parent.number c.lock_default.ensures.rest c.in_ok-lock_default.ensures.step.keeps.locks
+    (still_named c.lock_named.new.stores c.lock_named-2.new.stores c.args.attempt.now.caller.session c.in_ok-parent.parent.number c.lock_named-2.ensures.rest c.in_ok-table.ensures.step.keeps.locks
+    (named_locked c.args.attempt.now.names.now c.hold_if_repeatable.new.stores c.lock_named.new.stores c.args.attempt.now.caller c.args.parent.now c.in_ok-parent.parent (may_go_on _ _ _ _ _ _ c.requires.may c.in_ok-hold_if_repeatable.ensures.step) c.lock_named.ensures.rest c.in_ok-parent.ensures.known c.in_ok-parent.ensures.step))).locked
 
 pub leave_place-requires-clause-partition : goal.leave_place-requires-clause-partition
 leave_place-requires-clause-partition c = c.in_ok-check.ensures.partition
 
 pub returns-in_err-parent : goal.returns-in_err-parent
 returns-in_err-parent c =
-    let names = c.args.names.now in
-    let caller = c.args.caller in
-    let s = c.args.caller.session in
+    let names = c.args.attempt.now.names.now in
+    let caller = c.args.attempt.now.caller in
+    let s = c.args.attempt.now.caller.session in
     handed_on c.from_residual-in_err-parent.ensures.1
     (goes (held_at caller.level s caller.cmd) (λ u. locked_and_detached names caller c.args.parent.now c.args.name.now) c.in_ok-hold_if_repeatable.ensures.step
     (stops (named names s AccessExclusive c.args.parent.now) (λ x. follow (named names s AccessExclusive c.args.name.now) (λ y. table_detached names caller x y)) c.in_err-parent.ensures.step))
 
 pub returns-in_err-table : goal.returns-in_err-table
 returns-in_err-table c =
-    let names = c.args.names.now in
-    let caller = c.args.caller in
-    let s = c.args.caller.session in
+    let names = c.args.attempt.now.names.now in
+    let caller = c.args.attempt.now.caller in
+    let s = c.args.attempt.now.caller.session in
     let p = c.in_ok-parent.parent.number in
     handed_on c.from_residual-in_err-table.ensures.1
     (goes (held_at caller.level s caller.cmd) (λ u. locked_and_detached names caller c.args.parent.now c.args.name.now) c.in_ok-hold_if_repeatable.ensures.step
@@ -81,9 +81,9 @@ returns-in_err-table c =
 
 pub returns-in_err-lock_default : goal.returns-in_err-lock_default
 returns-in_err-lock_default c =
-    let names = c.args.names.now in
-    let caller = c.args.caller in
-    let s = c.args.caller.session in
+    let names = c.args.attempt.now.names.now in
+    let caller = c.args.attempt.now.caller in
+    let s = c.args.attempt.now.caller.session in
     let p = c.in_ok-parent.parent.number in
     let t = c.in_ok-table.table.number in
     handed_on c.from_residual-in_err-lock_default.ensures.1
@@ -94,9 +94,9 @@ returns-in_err-lock_default c =
 
 pub returns-in_err-check : goal.returns-in_err-check
 returns-in_err-check c =
-    let names = c.args.names.now in
-    let caller = c.args.caller in
-    let s = c.args.caller.session in
+    let names = c.args.attempt.now.names.now in
+    let caller = c.args.attempt.now.caller in
+    let s = c.args.attempt.now.caller.session in
     let p = c.in_ok-parent.parent.number in
     let t = c.in_ok-table.table.number in
     handed_on c.from_residual-in_err-check.ensures.1
@@ -108,9 +108,9 @@ returns-in_err-check c =
 
 pub returns : goal.returns
 returns c =
-    let names = c.args.names.now in
-    let caller = c.args.caller in
-    let s = c.args.caller.session in
+    let names = c.args.attempt.now.names.now in
+    let caller = c.args.attempt.now.caller in
+    let s = c.args.attempt.now.caller.session in
     let p = c.in_ok-parent.parent.number in
     let t = c.in_ok-table.table.number in
     goes (held_at caller.level s caller.cmd) (λ u. locked_and_detached names caller c.args.parent.now c.args.name.now) c.in_ok-hold_if_repeatable.ensures.step

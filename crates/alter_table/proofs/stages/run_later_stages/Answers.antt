@@ -29,18 +29,18 @@ leave_parent-requires-clause-may c = may_go_on _ _ _ _ _ _ (may_go_on _ _ _ _ _ 
 
 pub leave_parent-requires-clause-guarded : goal.leave_parent-requires-clause-guarded
 leave_parent-requires-clause-guarded c =
-    still_guards c.lock_named_still.new.stores c.lock_named_still-2.new.stores c.args.caller.session c.args.rest.parent.number c.in_ok-lock_named_still-2.ensures.step.keeps.locks
-    (still_named_guards c.args.names.now c.wait_for_others.new.stores c.lock_named_still.new.stores c.args.caller c.args.parent.now c.args.rest.parent.number (may_go_on _ _ _ _ _ _ c.requires.may c.in_ok-wait_for_others.ensures.step) c.in_ok-lock_named_still.ensures.step)
+    still_guards c.lock_named_still.new.stores c.lock_named_still-2.new.stores c.args.attempt.now.caller.session c.args.rest.parent.number c.in_ok-lock_named_still-2.ensures.step.keeps.locks
+    (still_named_guards c.args.attempt.now.names.now c.wait_for_others.new.stores c.lock_named_still.new.stores c.args.attempt.now.caller c.args.parent.now c.args.rest.parent.number (may_go_on _ _ _ _ _ _ c.requires.may c.in_ok-wait_for_others.ensures.step) c.in_ok-lock_named_still.ensures.step)
 
 pub leave_parent-requires-clause-owned : goal.leave_parent-requires-clause-owned
 leave_parent-requires-clause-owned c =
-    still_named_owns c.args.names.now c.lock_named_still.new.stores c.lock_named_still-2.new.stores c.args.caller c.args.name.now c.args.rest.table.number (may_go_on _ _ _ _ _ _ (may_go_on _ _ _ _ _ _ c.requires.may c.in_ok-wait_for_others.ensures.step) c.in_ok-lock_named_still.ensures.step) c.in_ok-lock_named_still-2.ensures.step
+    still_named_owns c.args.attempt.now.names.now c.lock_named_still.new.stores c.lock_named_still-2.new.stores c.args.attempt.now.caller c.args.name.now c.args.rest.table.number (may_go_on _ _ _ _ _ _ (may_go_on _ _ _ _ _ _ c.requires.may c.in_ok-wait_for_others.ensures.step) c.in_ok-lock_named_still.ensures.step) c.in_ok-lock_named_still-2.ensures.step
 
 pub returns-in_err-lock_named_still : goal.returns-in_err-lock_named_still
 returns-in_err-lock_named_still c =
-    let names = c.args.names.now in
-    let caller = c.args.caller in
-    let s = c.args.caller.session in
+    let names = c.args.attempt.now.names.now in
+    let caller = c.args.attempt.now.caller in
+    let s = c.args.attempt.now.caller.session in
     let d = c.args.rest in
     let end = λ (w : Unit {0}). partition_left caller d.parent.number d.table.number in
     handed_on c.from_residual-in_err-lock_named_still.ensures.1
@@ -49,9 +49,9 @@ returns-in_err-lock_named_still c =
 
 pub returns-in_err-lock_named_still-2 : goal.returns-in_err-lock_named_still-2
 returns-in_err-lock_named_still-2 c =
-    let names = c.args.names.now in
-    let caller = c.args.caller in
-    let s = c.args.caller.session in
+    let names = c.args.attempt.now.names.now in
+    let caller = c.args.attempt.now.caller in
+    let s = c.args.attempt.now.caller.session in
     let d = c.args.rest in
     let end = λ (w : Unit {0}). partition_left caller d.parent.number d.table.number in
     handed_on c.from_residual-in_err-lock_named_still-2.ensures.1
@@ -61,9 +61,9 @@ returns-in_err-lock_named_still-2 c =
 
 pub returns-in_err-check : goal.returns-in_err-check
 returns-in_err-check c =
-    let names = c.args.names.now in
-    let caller = c.args.caller in
-    let s = c.args.caller.session in
+    let names = c.args.attempt.now.names.now in
+    let caller = c.args.attempt.now.caller in
+    let s = c.args.attempt.now.caller.session in
     let d = c.args.rest in
     let end = λ (w : Unit {0}). partition_left caller d.parent.number d.table.number in
     handed_on c.from_residual-in_err-check.ensures.1
@@ -74,9 +74,9 @@ returns-in_err-check c =
 
 pub returns : goal.returns
 returns c =
-    let names = c.args.names.now in
-    let caller = c.args.caller in
-    let s = c.args.caller.session in
+    let names = c.args.attempt.now.names.now in
+    let caller = c.args.attempt.now.caller in
+    let s = c.args.attempt.now.caller.session in
     let d = c.args.rest in
     let end = λ (w : Unit {0}). partition_left caller d.parent.number d.table.number in
     goes (others_ended names s d) (λ u. third_stage names caller d c.args.parent.now c.args.name.now) c.in_ok-wait_for_others.ensures.step

@@ -33,7 +33,7 @@ bind-requires-clause-known c = c.in_ok-table.ensures.known.made
 
 pub keep-requires : goal.keep-requires
 keep-requires c =
-    read_prunable c.trees_can_be_pruned.ensures c.lock_named.new.stores c.args.caller c.in_ok-table.table (seen c.in_ok-tree.tree) c.in_ok-tree.path.items (may_go_on _ _ _ _ _ _ c.requires.may c.in_ok-table.ensures.step) c.in_ok-table.ensures.known c.in_ok-tree.ensures
+    read_prunable c.trees_can_be_pruned.ensures c.lock_named.new.stores c.args.attempt.now.caller c.in_ok-table.table (seen c.in_ok-tree.tree) c.in_ok-tree.path.items (may_go_on _ _ _ _ _ _ c.requires.may c.in_ok-table.ensures.step) c.in_ok-table.ensures.known c.in_ok-tree.ensures
 
 pub lock_tables-requires-clause-may : goal.lock_tables-requires-clause-may
 lock_tables-requires-clause-may c = may_go_on _ _ _ _ _ _ c.requires.may c.in_ok-table.ensures.step
@@ -41,21 +41,21 @@ lock_tables-requires-clause-may c = may_go_on _ _ _ _ _ _ c.requires.may c.in_ok
 pub lock_tables-requires-clause-known : goal.lock_tables-requires-clause-known
 lock_tables-requires-clause-known c =
     let mid = c.lock_named.new.stores in
-    all_low mid c.args.caller.session c.deref-2.result.now (needed mid c.args.caller c.args.how.prunes c.in_ok-table.table (seen c.in_ok-tree.tree) c.in_ok-tree.path.items (change_meant c.in_ok-ask.ask) c.deref-2.result.now (c.deref-2.ensures.value ∙ c.in_ok-kept.ensures.tables)
+    all_low mid c.args.attempt.now.caller.session c.deref-2.result.now (needed mid c.args.attempt.now.caller c.args.how.prunes c.in_ok-table.table (seen c.in_ok-tree.tree) c.in_ok-tree.path.items (change_meant c.in_ok-ask.ask) c.deref-2.result.now (c.deref-2.ensures.value ∙ c.in_ok-kept.ensures.tables)
     (may_go_on _ _ _ _ _ _ c.requires.may c.in_ok-table.ensures.step) (subst (λ (s : Stores). length s.catalog.tables ≤ 4096) (sym c.lock_named.ensures.rest) c.requires.few) c.in_ok-table.ensures.known c.in_ok-tree.ensures)
 
 pub lock_tables-requires-clause-there : goal.lock_tables-requires-clause-there
 lock_tables-requires-clause-there c =
     let mid = c.lock_named.new.stores in
-    all_known mid c.args.caller.session c.deref-2.result.now (needed mid c.args.caller c.args.how.prunes c.in_ok-table.table (seen c.in_ok-tree.tree) c.in_ok-tree.path.items (change_meant c.in_ok-ask.ask) c.deref-2.result.now (c.deref-2.ensures.value ∙ c.in_ok-kept.ensures.tables)
+    all_known mid c.args.attempt.now.caller.session c.deref-2.result.now (needed mid c.args.attempt.now.caller c.args.how.prunes c.in_ok-table.table (seen c.in_ok-tree.tree) c.in_ok-tree.path.items (change_meant c.in_ok-ask.ask) c.deref-2.result.now (c.deref-2.ensures.value ∙ c.in_ok-kept.ensures.tables)
     (may_go_on _ _ _ _ _ _ c.requires.may c.in_ok-table.ensures.step) (subst (λ (s : Stores). length s.catalog.tables ≤ 4096) (sym c.lock_named.ensures.rest) c.requires.few) c.in_ok-table.ensures.known c.in_ok-tree.ensures)
 
 pub returns-in_err-table-clause-step : goal.returns-in_err-table-clause-step
 returns-in_err-table-clause-step c =
-    let find = named c.args.names.now c.args.caller.session RowExclusive in
+    let find = named c.args.attempt.now.names.now c.args.attempt.now.caller.session RowExclusive in
     let table = table_named c.args.change in
     handed_on c.from_residual.ensures.1
-    (stops (find table.name) (of_table c.args.how c.args.names.now c.args.params.now c.args.caller table (settings_of c.args.change) (condition_of c.args.change))
+    (stops (find table.name) (of_table c.args.how c.args.attempt.now.names.now c.args.params.now c.args.attempt.now.caller table (settings_of c.args.change) (condition_of c.args.change))
     (moved find _ _ (c.as_bytes-name.ensures ∙ ap (λ (t : NamedTable). t.name) c.table_named.ensures) c.in_err-table.ensures.step))
 
 pub returns-in_err-tree-clause-step : goal.returns-in_err-tree-clause-step
@@ -63,8 +63,8 @@ returns-in_err-tree-clause-step c = out_behind c.from_residual-in_err-tree.ensur
 
 pub returns-in_err-ask-clause-step : goal.returns-in_err-ask-clause-step
 returns-in_err-ask-clause-step c =
-    let names = c.args.names.now in
-    let caller = c.args.caller in
+    let names = c.args.attempt.now.names.now in
+    let caller = c.args.attempt.now.caller in
     let change = c.args.change in
     let t = c.in_ok-table.table.number in
     handed_on c.from_residual-in_err-ask.ensures.1
@@ -82,8 +82,8 @@ returns-in_err-ask-2-clause-step c = out_behind c.from_residual-in_err-ask-2.ens
 
 pub returns-in_err-lock_tables-clause-step : goal.returns-in_err-lock_tables-clause-step
 returns-in_err-lock_tables-clause-step c =
-    let names = c.args.names.now in
-    let caller = c.args.caller in
+    let names = c.args.attempt.now.names.now in
+    let caller = c.args.attempt.now.caller in
     let change = c.args.change in
     let t = c.in_ok-table.table in
     let tree = seen c.in_ok-tree.tree in
@@ -102,8 +102,8 @@ returns-in_err-lock_tables-clause-rest c = rest_same c.args.stores.now c.lock_na
 
 pub returns-clause-step : goal.returns-clause-step
 returns-clause-step c =
-    let names = c.args.names.now in
-    let caller = c.args.caller in
+    let names = c.args.attempt.now.names.now in
+    let caller = c.args.attempt.now.caller in
     let change = c.args.change in
     let t = c.in_ok-table.table in
     let tree = seen c.in_ok-tree.tree in
@@ -121,7 +121,7 @@ returns-clause-step c =
     (goes (meant how c.args.params.now caller (table_named change) (settings_of change) (condition_of change) t.number) (locked how names caller args t.number tree path) c.in_ok-ask.ensures
     (goes (locked_all names caller (tables_locked keeps m.settings tree)) (λ u h. made [] g) locks
     (nothing_done found_of _ _ caller (λ h. made [] g) (may_go_on _ _ _ _ _ _ (may_go_on _ _ _ _ _ _ c.requires.may c.in_ok-table.ensures.step) locks)
-    (λ h stands. ap (λ x. made [] x) same))))
+    (λ h stands. rw (c.from_vec.ensures, c.from_vec-2.ensures) (ap (λ x. made [] x) same)))))
 
 pub returns-clause-found : goal.returns-clause-found
 returns-clause-found c =
@@ -134,11 +134,11 @@ returns-clause-found c =
     let same = found_as how args c.deref.result.now t tree path m (change_meant c.in_ok-ask-2.ask) c.in_ok-kept.kept.leaves.items c.in_ok-kept.kept.moves (c.deref.ensures.value ∙ (c.in_ok-args.ensures ∙ ap values_of c.apart.ensures))
     c.in_ok-ask-2.ensures c.in_ok-kept.ensures.leaves c.in_ok-kept.ensures.moves in
     let name = c.as_bytes-name.ensures ∙ ap (λ (t : NamedTable). t.name) c.table_named.ensures in
-    subst (IsGathered c.lock_tables.new.stores c.args.caller) same
-    (gathered_now c.args.names.now c.lock_named.new.stores c.lock_tables.new.stores c.args.caller how args t tree path m c.deref-2.result.now (c.deref-2.ensures.value ∙ c.in_ok-kept.ensures.tables)
+    rw (c.from_vec.ensures, c.from_vec-2.ensures) (subst (IsGathered c.lock_tables.new.stores c.args.attempt.now.caller) same
+    (gathered_now c.args.attempt.now.names.now c.lock_named.new.stores c.lock_tables.new.stores c.args.attempt.now.caller how args t tree path m c.deref-2.result.now (c.deref-2.ensures.value ∙ c.in_ok-kept.ensures.tables)
     (may_go_on _ _ _ _ _ _ c.requires.may c.in_ok-table.ensures.step) c.in_ok-table.ensures.known c.in_ok-tree.ensures
-    (may_write_named c.args.names.now c.args.stores.now c.lock_named.new.stores c.args.caller (table_named c.args.change).name t c.requires.may (moved (named c.args.names.now c.args.caller.session RowExclusive) _ _ name c.in_ok-table.ensures.step))
-    c.in_ok-lock_tables.ensures.step c.lock_tables.ensures.rest)
+    (may_write_named c.args.attempt.now.names.now c.args.stores.now c.lock_named.new.stores c.args.attempt.now.caller (table_named c.args.change).name t c.requires.may (moved (named c.args.attempt.now.names.now c.args.attempt.now.caller.session RowExclusive) _ _ name c.in_ok-table.ensures.step))
+    c.in_ok-lock_tables.ensures.step c.lock_tables.ensures.rest))
 
 pub returns-clause-rest : goal.returns-clause-rest
 returns-clause-rest c = rest_same c.args.stores.now c.lock_named.new.stores c.lock_tables.new.stores c.lock_named.ensures.rest c.lock_tables.ensures.rest

@@ -11,7 +11,7 @@ unreachable-requires c = some_holder c.args.housing.now.holders (found_of c.args
 pub target_of-requires-clause-known : goal.target_of-requires-clause-known
 target_of-requires-clause-known c =
     let g = found_of c.args.gathered.now in
-    holder_is_made (length c.args.stores.now.catalog.tables) c.args.housing.now.holders g.tree c.args.leaf c.in-Some.table (tables_low c.args.stores.now c.args.caller g c.requires.may) c.requires.housing.holders c.in-Some.ensures
+    holder_is_made (length c.args.stores.now.catalog.tables) c.args.housing.now.holders g.tree c.args.leaf c.in-Some.table (tables_low c.args.stores.now c.args.attempt.now.caller g c.requires.may) c.requires.housing.holders c.in-Some.ensures
 
 pub returns-clause-housing : goal.returns-clause-housing
 returns-clause-housing c = record {

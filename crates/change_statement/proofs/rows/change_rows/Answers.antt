@@ -26,7 +26,7 @@ pub returns-in_err-holders : goal.returns-in_err-holders
 returns-in_err-holders c =
     let g = found_of c.args.gathered in
     handed_run c.from_residual.ensures.1
-    (no_memory_run g told_by c.args.stores.now c.args.stores.now c.args.caller (λ h. giving (told_of g) (all_changed (changing c.args.change c.args.caller g) c.args.names.now c.args.caller g c.args.targets.now c.args.changed h)) (stays c.args.stores.now c.args.caller.session))
+    (no_memory_run g told_by c.args.stores.now c.args.stores.now c.args.attempt.now.caller (λ h. giving (told_of g) (all_changed (changing c.args.change c.args.attempt.now.caller g) c.args.attempt.now.names.now c.args.attempt.now.caller g c.args.targets.now c.args.changed h)) (stays c.args.stores.now c.args.attempt.now.caller.session))
 
 pub change_row-requires-clause-may : goal.change_row-requires-clause-may
 change_row-requires-clause-may c = c.loop-target.invariant.left.may
@@ -44,7 +44,7 @@ change_row-requires-clause-few c =
     omega (arith, few, long)
 
 pub pause-requires-clause-may : goal.pause-requires-clause-may
-pause-requires-clause-may c = subst (λ (s : Stores). MayRun (found_of c.args.gathered) s c.args.caller) (sym (rw c.in-Waits.is at c.in_ok-turn.ensures.turn).0) c.loop-target.invariant.left.may
+pause-requires-clause-may c = subst (λ (s : Stores). MayRun (found_of c.args.gathered) s c.args.attempt.now.caller) (sym (rw c.in-Waits.is at c.in_ok-turn.ensures.turn).0) c.loop-target.invariant.left.may
 
 pub pause-requires-clause-another : goal.pause-requires-clause-another
 pause-requires-clause-another c = (rw c.in-Waits.is at c.in_ok-turn.ensures.turn).2
@@ -61,36 +61,36 @@ pause-requires-clause-few c = c.loop-target.invariant.left.few
 pub returns-in-Waits : goal.returns-in-Waits
 returns-in-Waits c =
     let g = found_of c.args.gathered in
-    let change = changing c.args.change c.args.caller g in
-    let names = c.args.names.now in
+    let change = changing c.args.change c.args.attempt.now.caller g in
+    let names = c.args.attempt.now.names.now in
     let whole : c.loop-target.left.now ≡ c.in-Some.target.now ∷ c.in-Some.others.now = search rules in
     stopped_run (told_of g)
-    (waits_there (subst (λ ts. IsLeft c.args.stores.now c.loop-target.stores c.args.caller g change names c.args.targets.now ts c.args.changed c.loop-target.changed) whole c.loop-target.invariant.left) (rw c.in-Waits.is at c.in_ok-turn.ensures.turn)
-    (subst (λ ts. IsRun g (λ (u : Unit {0}). u) (Err c.pause.result) c.change_row.new.stores c.pause.new.stores c.args.caller (λ h. paused names c.args.caller c.in-Waits.other (standing h c.args.caller g ts c.loop-target.changed) h)) whole c.pause.ensures))
+    (waits_there (subst (λ ts. IsLeft c.args.stores.now c.loop-target.stores c.args.attempt.now.caller g change names c.args.targets.now ts c.args.changed c.loop-target.changed) whole c.loop-target.invariant.left) (rw c.in-Waits.is at c.in_ok-turn.ensures.turn)
+    (subst (λ ts. IsRun g (λ (u : Unit {0}). u) (Err c.pause.result) c.change_row.new.stores c.pause.new.stores c.args.attempt.now.caller (λ h. paused names c.args.attempt.now.caller c.in-Waits.other (standing h c.args.attempt.now.caller g ts c.loop-target.changed) h)) whole c.pause.ensures))
 
 pub returns-in_err-turn : goal.returns-in_err-turn
 returns-in_err-turn c =
     let g = found_of c.args.gathered in
-    let change = changing c.args.change c.args.caller g in
+    let change = changing c.args.change c.args.attempt.now.caller g in
     let whole : c.loop-target.left.now ≡ c.in-Some.target.now ∷ c.in-Some.others.now = search rules in
     handed_run c.from_residual-in_err-turn.ensures.1 (stopped_run (told_of g)
-    (stops_there (subst (λ ts. IsLeft c.args.stores.now c.loop-target.stores c.args.caller g change c.args.names.now c.args.targets.now ts c.args.changed c.loop-target.changed) whole c.loop-target.invariant.left) c.in_err-turn.ensures.turn))
+    (stops_there (subst (λ ts. IsLeft c.args.stores.now c.loop-target.stores c.args.attempt.now.caller g change c.args.attempt.now.names.now c.args.targets.now ts c.args.changed c.loop-target.changed) whole c.loop-target.invariant.left) c.in_err-turn.ensures.turn))
 
 pub loop-target-preserved : goal.loop-target-preserved
 loop-target-preserved c =
     let g = found_of c.args.gathered in
-    let change = changing c.args.change c.args.caller g in
+    let change = changing c.args.change c.args.attempt.now.caller g in
     let whole : c.loop-target.left.now ≡ c.in-Some.target.now ∷ c.in-Some.others.now = search rules in
     let turn = rw c.in-Counted.is at c.in_ok-turn.ensures.turn in
     record {
-      left = one_less (subst (λ ts. IsLeft c.args.stores.now c.loop-target.stores c.args.caller g change c.args.names.now c.args.targets.now ts c.args.changed c.loop-target.changed) whole c.loop-target.invariant.left) turn;
-      housing = housing_stays c.loop-target.stores c.change_row.new.stores c.args.caller.session g.tree c.change_row.new.housing turn.1 c.in_ok-turn.ensures.housing;
+      left = one_less (subst (λ ts. IsLeft c.args.stores.now c.loop-target.stores c.args.attempt.now.caller g change c.args.attempt.now.names.now c.args.targets.now ts c.args.changed c.loop-target.changed) whole c.loop-target.invariant.left) turn;
+      housing = housing_stays c.loop-target.stores c.change_row.new.stores c.args.attempt.now.caller.session g.tree c.change_row.new.housing turn.1 c.in_ok-turn.ensures.housing;
     }
 
 pub returns : goal.returns
 returns c =
     let g = found_of c.args.gathered in
-    let change = changing c.args.change c.args.caller g in
+    let change = changing c.args.change c.args.attempt.now.caller g in
     let none : c.loop-target.left.now ≡ [] = no_length c.loop-target.left.now c.in_default.ensures.cases in
     counted_run (told_of g) refl
-    (none_left (subst (λ ts. IsLeft c.args.stores.now c.loop-target.stores c.args.caller g change c.args.names.now c.args.targets.now ts c.args.changed c.loop-target.changed) none c.loop-target.invariant.left))
+    (none_left (subst (λ ts. IsLeft c.args.stores.now c.loop-target.stores c.args.attempt.now.caller g change c.args.attempt.now.names.now c.args.targets.now ts c.args.changed c.loop-target.changed) none c.loop-target.invariant.left))

@@ -7,8 +7,8 @@ use Rattle.change_statement.proofs.rows.change_rows.Given as goal
 
 abbrev pub invariant-loop-target : goal.invariant-loop-target
 invariant-loop-target l = record {
-  left : IsLeft l.fn.stores l.stores l.fn.caller (found_of l.fn.gathered) (changing l.fn.change l.fn.caller (found_of l.fn.gathered)) l.fn.names l.fn.targets l.left l.fn.changed l.changed;
-  housing : IsHousing l.stores l.fn.caller.session (found_of l.fn.gathered).tree l.housing;
+  left : IsLeft l.fn.stores l.stores l.fn.attempt.caller (found_of l.fn.gathered) (changing l.fn.change l.fn.attempt.caller (found_of l.fn.gathered)) l.fn.attempt.names.now l.fn.targets l.left l.fn.changed l.changed;
+  housing : IsHousing l.stores l.fn.attempt.caller.session (found_of l.fn.gathered).tree l.housing;
 }
 
 abbrev pub decreases-loop-target : goal.decreases-loop-target

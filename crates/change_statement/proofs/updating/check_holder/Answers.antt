@@ -15,29 +15,29 @@ unreachable-requires c =
 pub check_leaf-requires-clause-fits : goal.check_leaf-requires-clause-fits
 check_leaf-requires-clause-fits c =
     let g = found_of c.args.gathered.now in
-    let s = c.args.caller.session in
+    let s = c.args.attempt.now.caller.session in
     let st = c.args.stores.now in
     let h = c.requires.may.sound.0 in
     let stands = c.requires.may.sound.1 in
     let is = subst (IsOfTree st.txs st.catalog s g.tree) c.in-Some.is c.in_ok-keep_target.ensures.housing.last h stands.all.txs stands.all.catalog in
     subst (λ ts. FitsTargets ts c.args.row.now) (sym c.from_ref.ensures.value)
-    (targets_take st c.args.caller g c.args.row.now (c.in-Some.target ∷ []) c.requires.may c.requires.of (one_target h s g c.in-Some.target is))
+    (targets_take st c.args.attempt.now.caller g c.args.row.now (c.in-Some.target ∷ []) c.requires.may c.requires.of (one_target h s g c.in-Some.target is))
 
 pub check_leaf-requires-clause-known : goal.check_leaf-requires-clause-known
 check_leaf-requires-clause-known c =
     let g = found_of c.args.gathered.now in
-    let s = c.args.caller.session in
+    let s = c.args.attempt.now.caller.session in
     let st = c.args.stores.now in
     let h = c.requires.may.sound.0 in
     let stands = c.requires.may.sound.1 in
     let is = subst (IsOfTree st.txs st.catalog s g.tree) c.in-Some.is c.in_ok-keep_target.ensures.housing.last h stands.all.txs stands.all.catalog in
     subst (All (IsTargetNumbered (length st.catalog.tables))) (sym c.from_ref.ensures.value)
-    (targets_numbered st c.args.caller g c.args.row.now (c.in-Some.target ∷ []) h stands c.requires.may c.requires.of (one_target h s g c.in-Some.target is))
+    (targets_numbered st c.args.attempt.now.caller g c.args.row.now (c.in-Some.target ∷ []) h stands c.requires.may c.requires.of (one_target h s g c.in-Some.target is))
 
 pub returns-clause-told : goal.returns-clause-told
 returns-clause-told c h stands =
     let g = found_of c.args.gathered.now in
-    let s = c.args.caller.session in
+    let s = c.args.attempt.now.caller.session in
     let st = c.args.stores.now in
     let t = c.in-Some.target in
     let is = subst (IsOfTree st.txs st.catalog s g.tree) c.in-Some.is c.in_ok-keep_target.ensures.housing.last h stands.all.txs stands.all.catalog in

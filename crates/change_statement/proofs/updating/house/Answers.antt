@@ -13,19 +13,19 @@ use Rattle.change_statement.proofs.updating.house.Goals as goal
 use Rattle.change_statement.proofs.updating.house.Goals.{In-Some}
 
 pub check_bounds-requires-clause-fits : goal.check_bounds-requires-clause-fits
-check_bounds-requires-clause-fits c = subst (All (PartFits c.args.row.now)) (sym c.deref.ensures.value) c.requires.takes.fits.1
+check_bounds-requires-clause-fits c = subst (All (PartFits c.args.row.now)) (sym c.as_slice-path.ensures) c.requires.takes.fits.1
 
 pub check_bounds-requires-clause-known : goal.check_bounds-requires-clause-known
-check_bounds-requires-clause-known c = subst (All (IsPartNumbered (length c.args.stores.now.catalog.tables))) (sym c.deref.ensures.value) c.requires.takes.above
+check_bounds-requires-clause-known c = subst (All (IsPartNumbered (length c.args.stores.now.catalog.tables))) (sym c.as_slice-path.ensures) c.requires.takes.above
 
 pub leaves_of-requires-clause-fits : goal.leaves_of-requires-clause-fits
 leaves_of-requires-clause-fits c =
     let g = found_of c.args.gathered.now in
-    let P = CanBePlaced g.tree c.deref-2.result.now in
-    subst (All P) (sym c.from_ref.ensures.value) (All-cons P c.args.row.now [] (subst (λ p. CanBePlaced g.tree p c.args.row.now) (sym c.deref-2.ensures.value) c.requires.takes.fits) (All-nil P))
+    let P = CanBePlaced g.tree c.as_slice-path.result.now in
+    subst (All P) (sym c.from_ref.ensures.value) (All-cons P c.args.row.now [] (subst (λ p. CanBePlaced g.tree p c.args.row.now) (sym c.as_slice-path.ensures) c.requires.takes.fits) (All-nil P))
 
 pub leaves_of-requires-clause-path : goal.leaves_of-requires-clause-path
-leaves_of-requires-clause-path c = subst (All (IsPartNumbered (length c.args.stores.now.catalog.tables))) (sym c.deref-2.ensures.value) c.requires.takes.above
+leaves_of-requires-clause-path c = subst (All (IsPartNumbered (length c.args.stores.now.catalog.tables))) (sym c.as_slice-path.ensures) c.requires.takes.above
 
 pub leaves_of-requires-clause-known : goal.leaves_of-requires-clause-known
 leaves_of-requires-clause-known c = c.requires.takes.known

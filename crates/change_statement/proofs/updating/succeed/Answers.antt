@@ -13,15 +13,15 @@ succeed_row-requires-clause-standing c =
 
 pub succeed_row-requires-clause-leaf : goal.succeed_row-requires-clause-leaf
 succeed_row-requires-clause-leaf c =
-    placed_among c.args.stores.now c.args.caller (found_of c.args.gathered.now) c.args.id c.args.from c.args.leaf c.args.row c.requires.may c.requires.version c.requires.own c.requires.placed
+    placed_among c.args.stores.now c.args.attempt.now.caller (found_of c.args.gathered.now) c.args.id c.args.from c.args.leaf c.args.row c.requires.may c.requires.version c.requires.own c.requires.placed
 
 pub returns-clause-run : goal.returns-clause-run
 returns-clause-run c =
-    succeeded_run (Ok tt) c.args.stores.now c.succeed_row.new.store c.args.caller (found_of c.args.gathered.now) c.args.from c.args.id c.args.leaf c.args.row c.in-Some.by c.requires.may c.requires.version c.requires.own c.requires.keys c.requires.of c.requires.placed c.requires.taken
+    succeeded_run (Ok tt) c.args.stores.now c.succeed_row.new.store c.args.attempt.now.caller (found_of c.args.gathered.now) c.args.from c.args.id c.args.leaf c.args.row c.in-Some.by c.requires.may c.requires.version c.requires.own c.requires.keys c.requires.of c.requires.placed c.requires.taken
     (sym c.in-Some.ensures.kept) (λ h txs store. c.in_ok-succeed_row.ensures.made h txs store)
 
 pub returns-in_err-succeed_row-clause-run : goal.returns-in_err-succeed_row-clause-run
 returns-in_err-succeed_row-clause-run c =
     handed_run c.from_residual.ensures.1
-    (succeeded_run (Err c.in_err-succeed_row.field-0.0) c.args.stores.now c.succeed_row.new.store c.args.caller (found_of c.args.gathered.now) c.args.from c.args.id c.args.leaf c.args.row c.in-Some.by c.requires.may c.requires.version c.requires.own c.requires.keys c.requires.of c.requires.placed c.requires.taken
+    (succeeded_run (Err c.in_err-succeed_row.field-0.0) c.args.stores.now c.succeed_row.new.store c.args.attempt.now.caller (found_of c.args.gathered.now) c.args.from c.args.id c.args.leaf c.args.row c.in-Some.by c.requires.may c.requires.version c.requires.own c.requires.keys c.requires.of c.requires.placed c.requires.taken
     (sym c.in-Some.ensures.kept) (λ h txs store. c.in_err-succeed_row.ensures.made h txs store))

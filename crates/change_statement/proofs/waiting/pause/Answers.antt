@@ -18,7 +18,7 @@ wait_for_end-requires-clause-may c = c.requires.may.may
 pub unreachable-requires-in-Ok-wait_for_end : goal.unreachable-requires-in-Ok-wait_for_end
 unreachable-requires-in-Ok-wait_for_end c =
     let s = c.requires.may.may.sound in
-    has_to_pause c.args.names.now (following c.args.caller) c.args.other c.new-rest.result s.0 c.requires.known (c.in-Ok-wait_for_end.ensures.is s.0 s.1 s.2).0
+    has_to_pause c.args.attempt.now.names.now (following c.args.attempt.now.caller) c.args.other c.new-rest.result s.0 c.requires.known (c.in-Ok-wait_for_end.ensures.is s.0 s.1 s.2).0
 
 pub new-rest-requires : goal.new-rest-requires
 new-rest-requires c = subst (λ (ts : List TargetRow). CanBeCounted c.args.changed (length ts)) (sym c.in-Ok.ensures) c.requires.few
@@ -28,5 +28,5 @@ returns c =
     let g = found_of c.args.gathered in
     let left : List TargetRow → RowsLeft = λ ts. record { by = c.in-Some.by; found = g; left = ts; changed = c.args.changed } in
     let is = c.new-rest.ensures ∙ ap left c.in-Ok.ensures in
-    paused_run c.args.names.now c.in-Err.stop c.args.stores.now c.wait_for_end.new.stores c.args.caller g c.args.other c.in-Some.by c.args.left.now c.args.changed c.requires.may c.requires.left (sym c.in-Some.ensures.kept)
-    (subst (λ r. IsPart (λ (u : Unit {0}). u) (Err c.in-Err.stop) c.args.stores.now c.wait_for_end.new.stores (following c.args.caller) (c.args.caller.cmd + 1) (held_up c.args.names.now (following c.args.caller) c.args.other r)) is c.in-Err.ensures)
+    paused_run c.args.attempt.now.names.now c.in-Err.stop c.args.stores.now c.wait_for_end.new.stores c.args.attempt.now.caller g c.args.other c.in-Some.by c.args.left.now c.args.changed c.requires.may c.requires.left (sym c.in-Some.ensures.kept)
+    (subst (λ r. IsPart (λ (u : Unit {0}). u) (Err c.in-Err.stop) c.args.stores.now c.wait_for_end.new.stores (following c.args.attempt.now.caller) (c.args.attempt.now.caller.cmd + 1) (held_up c.args.attempt.now.names.now (following c.args.attempt.now.caller) c.args.other r)) is c.in-Err.ensures)

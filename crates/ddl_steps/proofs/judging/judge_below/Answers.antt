@@ -16,7 +16,7 @@ pub judge-requires-clause-suited : goal.judge-requires-clause-suited
 judge-requires-clause-suited c = λ v stored mine.
     let h = c.requires.may.sound.0 in
     let stands = c.requires.may.sound.1 in
-    let s = c.args.caller.session in
+    let s = c.args.attempt.now.caller.session in
     let p = c.args.parent in
     let t = c.args.table.number in
     let keys = c.requires.keys in
@@ -29,7 +29,7 @@ judge-requires-clause-suited c = λ v stored mine.
 
 pub returns-in-Ok-clause-answer : goal.returns-in-Ok-clause-answer
 returns-in-Ok-clause-answer c = λ h tells.
-    let s = c.args.caller.session in
+    let s = c.args.attempt.now.caller.session in
     let p = c.args.parent.number in
     let b = c.args.bound.now in
     let t = c.args.table.number in
@@ -40,7 +40,7 @@ returns-in-Ok-clause-answer c = λ h tells.
 
 pub returns-in-Ok-clause-all : goal.returns-in-Ok-clause-all
 returns-in-Ok-clause-all c = λ h tells.
-    let s = c.args.caller.session in
+    let s = c.args.attempt.now.caller.session in
     let p = c.args.parent.number in
     let b = c.args.bound.now in
     let t = c.args.table.number in
@@ -51,7 +51,7 @@ returns-in-Ok-clause-all c = λ h tells.
 
 pub returns-clause-answer : goal.returns-clause-answer
 returns-clause-answer c = λ h tells.
-    let s = c.args.caller.session in
+    let s = c.args.attempt.now.caller.session in
     let p = c.args.parent.number in
     let b = c.args.bound.now in
     let t = c.args.table.number in

@@ -17,7 +17,7 @@ pub judge-requires-clause-suited : goal.judge-requires-clause-suited
 judge-requires-clause-suited c = λ v stored mine.
     let h = c.requires.may.sound.0 in
     let stands = c.requires.may.sound.1 in
-    let s = c.args.caller.session in
+    let s = c.args.attempt.now.caller.session in
     let p = c.args.parent.number in
     let keys = c.requires.keys in
     let at = subst (λ (ls : List LeafId). Contains ls v.leaf) (c.deref.ensures.value ∙ c.in_ok-leaves.ensures.is h stands.all.txs stands.all.catalog) mine in
@@ -26,7 +26,7 @@ judge-requires-clause-suited c = λ v stored mine.
 
 pub returns-in-Ok-clause-answer : goal.returns-in-Ok-clause-answer
 returns-in-Ok-clause-answer c = λ h tells.
-    let s = c.args.caller.session in
+    let s = c.args.attempt.now.caller.session in
     let p = c.args.parent.number in
     let b = c.args.bound.now in
     let d = c.args.default.number in
@@ -37,7 +37,7 @@ returns-in-Ok-clause-answer c = λ h tells.
 
 pub returns-clause-answer : goal.returns-clause-answer
 returns-clause-answer c = λ h tells.
-    let s = c.args.caller.session in
+    let s = c.args.attempt.now.caller.session in
     let p = c.args.parent.number in
     let b = c.args.bound.now in
     let d = c.args.default.number in

@@ -17,10 +17,10 @@ pub keep_tree-requires-clause-known : goal.keep_tree-requires-clause-known
 keep_tree-requires-clause-known c = c.requires.there.made
 
 pub store_by_tree-requires-clause-may : goal.store_by_tree-requires-clause-may
-store_by_tree-requires-clause-may c = subst (λ (s : Stores). MayAttempt s c.args.caller) (sym c.keep_tree.ensures) c.requires.may
+store_by_tree-requires-clause-may c = subst (λ (s : Stores). MayAttempt s c.args.attempt.now.caller) (sym c.keep_tree.ensures) c.requires.may
 
 pub store_by_tree-requires-clause-there : goal.store_by_tree-requires-clause-there
-store_by_tree-requires-clause-there c = subst (λ (s : Stores). IsKnownTo s c.args.caller.session c.args.table.number) (sym c.keep_tree.ensures) c.requires.there
+store_by_tree-requires-clause-there c = subst (λ (s : Stores). IsKnownTo s c.args.attempt.now.caller.session c.args.table.number) (sym c.keep_tree.ensures) c.requires.there
 
 pub store_by_tree-requires-clause-few : goal.store_by_tree-requires-clause-few
 store_by_tree-requires-clause-few c = subst (λ (s : Stores). length s.catalog.tables ≤ 4096) (sym c.keep_tree.ensures) c.requires.few
@@ -33,8 +33,8 @@ store_by_tree-requires-clause-rows c = subst (λ (s : Stores). AreRowsOf s.catal
 
 pub returns-in_err-keep_tree : goal.returns-in_err-keep_tree
 returns-in_err-keep_tree c =
-    subst (λ (s : Stores). IsStep (λ u. u) c.from_residual.result c.args.stores.now s c.args.caller (c.args.caller.cmd + 1) (into_partitions c.args.names.now c.args.caller c.args.table.number c.args.rows.items)) (sym c.keep_tree.ensures) (out_here c.from_residual.ensures.1)
+    subst (λ (s : Stores). IsStep (λ u. u) c.from_residual.result c.args.stores.now s c.args.attempt.now.caller (c.args.attempt.now.caller.cmd + 1) (into_partitions c.args.attempt.now.names.now c.args.attempt.now.caller c.args.table.number c.args.rows.items)) (sym c.keep_tree.ensures) (out_here c.from_residual.ensures.1)
 
 pub returns : goal.returns
 returns c =
-    subst (λ (s : Stores). IsStep (λ u. u) c.store_by_tree.result s c.store_by_tree.new.stores c.args.caller (c.args.caller.cmd + 1) (into_partitions c.args.names.now c.args.caller c.args.table.number c.args.rows.items)) c.keep_tree.ensures c.store_by_tree.ensures
+    subst (λ (s : Stores). IsStep (λ u. u) c.store_by_tree.result s c.store_by_tree.new.stores c.args.attempt.now.caller (c.args.attempt.now.caller.cmd + 1) (into_partitions c.args.attempt.now.names.now c.args.attempt.now.caller c.args.table.number c.args.rows.items)) c.keep_tree.ensures c.store_by_tree.ensures

@@ -33,13 +33,13 @@ store_into-requires-clause-rows c = c.in_ok-rows.ensures.of
 
 pub store_into-requires-clause-locked : goal.store_into-requires-clause-locked
 store_into-requires-clause-locked c =
-    may_write_named c.args.names.now c.hold_if_repeatable.new.stores c.lock_named.new.stores c.args.caller c.args.statement.now.table c.in_ok-table.table (may_go_on _ _ _ _ _ _ c.requires.may c.in_ok-hold_if_repeatable.ensures.step)
-    (moved (named c.args.names.now c.args.caller.session RowExclusive) _ _ c.as_bytes-name.ensures c.in_ok-table.ensures.step)
+    may_write_named c.args.attempt.now.names.now c.hold_if_repeatable.new.stores c.lock_named.new.stores c.args.attempt.now.caller c.args.statement.now.table c.in_ok-table.table (may_go_on _ _ _ _ _ _ c.requires.may c.in_ok-hold_if_repeatable.ensures.step)
+    (moved (named c.args.attempt.now.names.now c.args.attempt.now.caller.session RowExclusive) _ _ c.as_bytes-name.ensures c.in_ok-table.ensures.step)
 
 pub returns-in_err-table : goal.returns-in_err-table
 returns-in_err-table c =
-    let names = c.args.names.now in
-    let caller = c.args.caller in
+    let names = c.args.attempt.now.names.now in
+    let caller = c.args.attempt.now.caller in
     let st = c.args.statement.now in
     handed_on c.from_residual-in_err-table.ensures.1
     (goes (held_at caller.level caller.session caller.cmd) (λ u. gathered names c.args.params.now caller st.table st.columns (map trees st.rows)) c.in_ok-hold_if_repeatable.ensures.step
@@ -48,8 +48,8 @@ returns-in_err-table c =
 
 pub returns-in_err-rows : goal.returns-in_err-rows
 returns-in_err-rows c =
-    let names = c.args.names.now in
-    let caller = c.args.caller in
+    let names = c.args.attempt.now.names.now in
+    let caller = c.args.attempt.now.caller in
     let st = c.args.statement.now in
     let t = c.in_ok-table.table.number in
     handed_on c.from_residual-in_err-rows.ensures.1
@@ -60,8 +60,8 @@ returns-in_err-rows c =
 
 pub returns : goal.returns
 returns c =
-    let names = c.args.names.now in
-    let caller = c.args.caller in
+    let names = c.args.attempt.now.names.now in
+    let caller = c.args.attempt.now.caller in
     let st = c.args.statement.now in
     let t = c.in_ok-table.table.number in
     goes (held_at caller.level caller.session caller.cmd) (λ u. gathered names c.args.params.now caller st.table st.columns (map trees st.rows)) c.in_ok-hold_if_repeatable.ensures.step

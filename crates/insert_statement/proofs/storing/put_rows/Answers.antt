@@ -16,14 +16,14 @@ pub store_rows-requires-clause-told : goal.store_rows-requires-clause-told
 store_rows-requires-clause-told c = c.requires.rows.told
 
 pub store_rows-requires-clause-runs : goal.store_rows-requires-clause-runs
-store_rows-requires-clause-runs c = (c.args.caller.session, sym c.in-Some.ensures.kept)
+store_rows-requires-clause-runs c = (c.args.attempt.now.caller.session, sym c.in-Some.ensures.kept)
 
 pub returns : goal.returns
 returns c =
-    put_ok c.args.stores.now c.store_rows.new.store c.args.caller c.args.targets.now c.args.leaves.now c.args.rows.items c.requires.may
+    put_ok c.args.stores.now c.store_rows.new.store c.args.attempt.now.caller c.args.targets.now c.args.leaves.now c.args.rows.items c.requires.may
     (record { by = c.in-Some.by; own = c.in-Some.ensures.is; may = c.requires.rows.may; made = c.in_ok-store_rows.ensures.made })
 
 pub returns-in_err-store_rows : goal.returns-in_err-store_rows
 returns-in_err-store_rows c =
-    handed_on c.from_residual.ensures.1 (put_refused c.args.stores.now c.store_rows.new.store c.args.caller c.args.targets.now c.args.leaves.now c.args.rows.items c.in_err-store_rows.field-0.0 c.requires.may
+    handed_on c.from_residual.ensures.1 (put_refused c.args.stores.now c.store_rows.new.store c.args.attempt.now.caller c.args.targets.now c.args.leaves.now c.args.rows.items c.in_err-store_rows.field-0.0 c.requires.may
     (record { by = c.in-Some.by; own = c.in-Some.ensures.is; may = c.requires.rows.may; made = c.in_err-store_rows.ensures.made }))

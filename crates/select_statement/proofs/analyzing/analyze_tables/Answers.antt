@@ -11,11 +11,11 @@ use Rattle.select_statement.proofs.analyzing.analyze_tables.Goals as goal
 
 pub returns-in_err-found : goal.returns-in_err-found
 returns-in_err-found c =
-    let names = c.args.names.now in
+    let names = c.args.attempt.now.names.now in
     let t = select_tree c.args.select.now in
     let args = values_by c.args.how c.args.params.now in
     handed_on c.from_residual.ensures.1
-    (stops (gathered c.args.how names c.args.params.now c.args.caller t) (λ (g : Found). follow (planned_under c.args.how names c.args.caller args g) (run_counted c.args.caller args t g)) c.in_err-found.ensures.step)
+    (stops (gathered c.args.how names c.args.params.now c.args.attempt.now.caller t) (λ (g : Found). follow (planned_under c.args.how names c.args.attempt.now.caller args g) (run_counted c.args.attempt.now.caller args t g)) c.in_err-found.ensures.step)
 
 pub returns-in_err-args : goal.returns-in_err-args
 returns-in_err-args c = out_behind c.from_residual-in_err-args.ensures.1 c.in_ok-found.ensures.step
@@ -25,29 +25,29 @@ plan_under-requires-clause-may c = may_go_on _ _ _ _ _ _ c.requires.may c.in_ok-
 
 pub returns-in_err-plan : goal.returns-in_err-plan
 returns-in_err-plan c =
-    let names = c.args.names.now in
+    let names = c.args.attempt.now.names.now in
     let t = select_tree c.args.select.now in
     let g = found_by c.in_ok-found.found in
     let args = values_by c.args.how c.args.params.now in
     let same = c.deref.ensures.value ∙ c.in_ok-args.ensures in
     handed_on c.from_residual-in_err-plan.ensures.1
-    (goes (gathered c.args.how names c.args.params.now c.args.caller t) (λ (x : Found). follow (planned_under c.args.how names c.args.caller args x) (run_counted c.args.caller args t x)) c.in_ok-found.ensures.step
-    (stops (planned_under c.args.how names c.args.caller args g) (run_counted c.args.caller args t g) (moved (λ vs. planned_under c.args.how names c.args.caller vs g) _ _ same c.in_err-plan.ensures.step)))
+    (goes (gathered c.args.how names c.args.params.now c.args.attempt.now.caller t) (λ (x : Found). follow (planned_under c.args.how names c.args.attempt.now.caller args x) (run_counted c.args.attempt.now.caller args t x)) c.in_ok-found.ensures.step
+    (stops (planned_under c.args.how names c.args.attempt.now.caller args g) (run_counted c.args.attempt.now.caller args t g) (moved (λ vs. planned_under c.args.how names c.args.attempt.now.caller vs g) _ _ same c.in_err-plan.ensures.step)))
 
 pub run_counted-requires-clause-may : goal.run_counted-requires-clause-may
 run_counted-requires-clause-may c = may_go_on _ _ _ _ _ _ (may_go_on _ _ _ _ _ _ c.requires.may c.in_ok-found.ensures.step) c.in_ok-plan.ensures.step
 
 pub run_counted-requires-clause-look : goal.run_counted-requires-clause-look
-run_counted-requires-clause-look c = look_stays _ c.plan_under.new.stores c.args.caller c.in_ok-found.found.snap c.plan_under.ensures.rest c.in_ok-found.ensures.look
+run_counted-requires-clause-look c = look_stays _ c.plan_under.new.stores c.args.attempt.now.caller c.in_ok-found.found.snap c.plan_under.ensures.rest c.in_ok-found.ensures.look
 
 pub returns : goal.returns
 returns c =
-    let names = c.args.names.now in
+    let names = c.args.attempt.now.names.now in
     let t = select_tree c.args.select.now in
     let g = found_by c.in_ok-found.found in
     let args = values_by c.args.how c.args.params.now in
     let same = c.deref.ensures.value ∙ c.in_ok-args.ensures in
-    let step = subst (λ vs. IsStep planned (Ok c.in_ok-plan.plan) c.gather.new.stores c.plan_under.new.stores c.args.caller c.args.caller.cmd (planned_under c.args.how names c.args.caller vs g)) same c.in_ok-plan.ensures.step in
-    goes (gathered c.args.how names c.args.params.now c.args.caller t) (λ (x : Found). follow (planned_under c.args.how names c.args.caller args x) (run_counted c.args.caller args t x)) c.in_ok-found.ensures.step
-    (goes (planned_under c.args.how names c.args.caller args g) (run_counted c.args.caller args t g) step
-    (moved (λ vs. run_counted c.args.caller vs t g (planned c.in_ok-plan.plan)) _ _ (c.deref-2.ensures.value ∙ c.in_ok-args.ensures) c.run_counted.ensures))
+    let step = subst (λ vs. IsStep planned (Ok c.in_ok-plan.plan) c.gather.new.stores c.plan_under.new.stores c.args.attempt.now.caller c.args.attempt.now.caller.cmd (planned_under c.args.how names c.args.attempt.now.caller vs g)) same c.in_ok-plan.ensures.step in
+    goes (gathered c.args.how names c.args.params.now c.args.attempt.now.caller t) (λ (x : Found). follow (planned_under c.args.how names c.args.attempt.now.caller args x) (run_counted c.args.attempt.now.caller args t x)) c.in_ok-found.ensures.step
+    (goes (planned_under c.args.how names c.args.attempt.now.caller args g) (run_counted c.args.attempt.now.caller args t g) step
+    (moved (λ vs. run_counted c.args.attempt.now.caller vs t g (planned c.in_ok-plan.plan)) _ _ (c.deref-2.ensures.value ∙ c.in_ok-args.ensures) c.run_counted.ensures))

@@ -18,18 +18,18 @@ gather-requires-clause-few c = subst (λ (s : Stores). length s.catalog.tables �
 
 pub returns-in_err-found : goal.returns-in_err-found
 returns-in_err-found c =
-    let names = c.args.names.now in
+    let names = c.args.attempt.now.names.now in
     let t = select_tree c.args.select.now in
     let args = values_by c.args.how c.args.params.now in
-    handed_on c.from_residual-in_err-found.ensures.1 (goes (begins c.args.caller) (λ u. follow (gathered c.args.how names c.args.params.now c.args.caller t) (λ (g : Found). follow (planned_under c.args.how names c.args.caller args g) (printed t g))) c.in_ok-hold_if_repeatable.ensures.step
-    (stops (gathered c.args.how names c.args.params.now c.args.caller t) (λ (g : Found). follow (planned_under c.args.how names c.args.caller args g) (printed t g)) c.in_err-found.ensures.step))
+    handed_on c.from_residual-in_err-found.ensures.1 (goes (begins c.args.attempt.now.caller) (λ u. follow (gathered c.args.how names c.args.params.now c.args.attempt.now.caller t) (λ (g : Found). follow (planned_under c.args.how names c.args.attempt.now.caller args g) (printed t g))) c.in_ok-hold_if_repeatable.ensures.step
+    (stops (gathered c.args.how names c.args.params.now c.args.attempt.now.caller t) (λ (g : Found). follow (planned_under c.args.how names c.args.attempt.now.caller args g) (printed t g)) c.in_err-found.ensures.step))
 
 pub returns-in_err-args : goal.returns-in_err-args
 returns-in_err-args c =
-    let names = c.args.names.now in
+    let names = c.args.attempt.now.names.now in
     let t = select_tree c.args.select.now in
     let args = values_by c.args.how c.args.params.now in
-    goes (begins c.args.caller) (λ u. follow (gathered c.args.how names c.args.params.now c.args.caller t) (λ (g : Found). follow (planned_under c.args.how names c.args.caller args g) (printed t g))) c.in_ok-hold_if_repeatable.ensures.step
+    goes (begins c.args.attempt.now.caller) (λ u. follow (gathered c.args.how names c.args.params.now c.args.attempt.now.caller t) (λ (g : Found). follow (planned_under c.args.how names c.args.attempt.now.caller args g) (printed t g))) c.in_ok-hold_if_repeatable.ensures.step
     (out_behind c.from_residual-in_err-args.ensures.1 c.in_ok-found.ensures.step)
 
 pub plan_under-requires-clause-may : goal.plan_under-requires-clause-may
@@ -37,34 +37,34 @@ plan_under-requires-clause-may c = may_go_on _ _ _ _ _ _ (may_go_on _ _ _ _ _ _ 
 
 pub returns-in_err-plan : goal.returns-in_err-plan
 returns-in_err-plan c =
-    let names = c.args.names.now in
+    let names = c.args.attempt.now.names.now in
     let t = select_tree c.args.select.now in
     let g = found_by c.in_ok-found.found in
     let args = values_by c.args.how c.args.params.now in
     let same = c.deref.ensures.value ∙ c.in_ok-args.ensures in
-    handed_on c.from_residual-in_err-plan.ensures.1 (goes (begins c.args.caller) (λ u. follow (gathered c.args.how names c.args.params.now c.args.caller t) (λ (x : Found). follow (planned_under c.args.how names c.args.caller args x) (printed t x))) c.in_ok-hold_if_repeatable.ensures.step
-    (goes (gathered c.args.how names c.args.params.now c.args.caller t) (λ (x : Found). follow (planned_under c.args.how names c.args.caller args x) (printed t x)) c.in_ok-found.ensures.step
-    (stops (planned_under c.args.how names c.args.caller args g) (printed t g) (moved (λ vs. planned_under c.args.how names c.args.caller vs g) _ _ same c.in_err-plan.ensures.step))))
+    handed_on c.from_residual-in_err-plan.ensures.1 (goes (begins c.args.attempt.now.caller) (λ u. follow (gathered c.args.how names c.args.params.now c.args.attempt.now.caller t) (λ (x : Found). follow (planned_under c.args.how names c.args.attempt.now.caller args x) (printed t x))) c.in_ok-hold_if_repeatable.ensures.step
+    (goes (gathered c.args.how names c.args.params.now c.args.attempt.now.caller t) (λ (x : Found). follow (planned_under c.args.how names c.args.attempt.now.caller args x) (printed t x)) c.in_ok-found.ensures.step
+    (stops (planned_under c.args.how names c.args.attempt.now.caller args g) (printed t g) (moved (λ vs. planned_under c.args.how names c.args.attempt.now.caller vs g) _ _ same c.in_err-plan.ensures.step))))
 
 pub returns : goal.returns
 returns c =
-    let names = c.args.names.now in
+    let names = c.args.attempt.now.names.now in
     let t = select_tree c.args.select.now in
     let g = found_by c.in_ok-found.found in
     let args = values_by c.args.how c.args.params.now in
     let same = c.deref.ensures.value ∙ c.in_ok-args.ensures in
-    let step = subst (λ vs. IsStep planned (Ok c.in_ok-plan.plan) c.gather.new.stores c.plan_under.new.stores c.args.caller c.args.caller.cmd (planned_under c.args.how names c.args.caller vs g)) same c.in_ok-plan.ensures.step in
-    goes (begins c.args.caller) (λ u. follow (gathered c.args.how names c.args.params.now c.args.caller t) (λ (x : Found). follow (planned_under c.args.how names c.args.caller args x) (printed t x))) c.in_ok-hold_if_repeatable.ensures.step
-    (goes (gathered c.args.how names c.args.params.now c.args.caller t) (λ (x : Found). follow (planned_under c.args.how names c.args.caller args x) (printed t x)) c.in_ok-found.ensures.step
-    (goes (planned_under c.args.how names c.args.caller args g) (printed t g) step
-    (printed_done c.in_ok-table.table c.plan_under.new.stores c.args.caller t g (planned c.in_ok-plan.plan)
+    let step = subst (λ vs. IsStep planned (Ok c.in_ok-plan.plan) c.gather.new.stores c.plan_under.new.stores c.args.attempt.now.caller c.args.attempt.now.caller.cmd (planned_under c.args.how names c.args.attempt.now.caller vs g)) same c.in_ok-plan.ensures.step in
+    goes (begins c.args.attempt.now.caller) (λ u. follow (gathered c.args.how names c.args.params.now c.args.attempt.now.caller t) (λ (x : Found). follow (planned_under c.args.how names c.args.attempt.now.caller args x) (printed t x))) c.in_ok-hold_if_repeatable.ensures.step
+    (goes (gathered c.args.how names c.args.params.now c.args.attempt.now.caller t) (λ (x : Found). follow (planned_under c.args.how names c.args.attempt.now.caller args x) (printed t x)) c.in_ok-found.ensures.step
+    (goes (planned_under c.args.how names c.args.attempt.now.caller args g) (printed t g) step
+    (printed_done c.in_ok-table.table c.plan_under.new.stores c.args.attempt.now.caller t g (planned c.in_ok-plan.plan)
     (may_go_on _ _ _ _ _ _ (may_go_on _ _ _ _ _ _ (may_go_on _ _ _ _ _ _ c.requires.may c.in_ok-hold_if_repeatable.ensures.step) c.in_ok-found.ensures.step) step) c.in_ok-table.ensures)))
 
 pub returns-in_err-table : goal.returns-in_err-table
 returns-in_err-table c =
-    let names = c.args.names.now in
+    let names = c.args.attempt.now.names.now in
     let t = select_tree c.args.select.now in
     let args = values_by c.args.how c.args.params.now in
-    goes (begins c.args.caller) (λ u. follow (gathered c.args.how names c.args.params.now c.args.caller t) (λ (x : Found). follow (planned_under c.args.how names c.args.caller args x) (printed t x))) c.in_ok-hold_if_repeatable.ensures.step
-    (goes (gathered c.args.how names c.args.params.now c.args.caller t) (λ (x : Found). follow (planned_under c.args.how names c.args.caller args x) (printed t x)) c.in_ok-found.ensures.step
+    goes (begins c.args.attempt.now.caller) (λ u. follow (gathered c.args.how names c.args.params.now c.args.attempt.now.caller t) (λ (x : Found). follow (planned_under c.args.how names c.args.attempt.now.caller args x) (printed t x))) c.in_ok-hold_if_repeatable.ensures.step
+    (goes (gathered c.args.how names c.args.params.now c.args.attempt.now.caller t) (λ (x : Found). follow (planned_under c.args.how names c.args.attempt.now.caller args x) (printed t x)) c.in_ok-found.ensures.step
     (out_behind c.from_residual-in_err-table.ensures.1 c.in_ok-plan.ensures.step))

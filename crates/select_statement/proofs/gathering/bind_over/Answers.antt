@@ -13,14 +13,14 @@ pub returns-then-trees-gt4-clause-step : goal.returns-then-trees-gt4-clause-step
 returns-then-trees-gt4-clause-step c =
     let many = c.if-trees-gt4.true in
     let each = c.requires.each in
-    subst (λ f. IsStep select_meant c.bind.result c.args.stores.now c.args.stores.now c.args.caller c.args.caller.cmd f)
-    (sym (too_many_meant c.args.how c.args.params.now c.args.caller (select_tree c.args.select.now) (items_of 0 (from_of (select_tree c.args.select.now)) (map seen c.args.trees.now)) (omega (arith, many, each)))) c.bind.ensures
+    subst (λ f. IsStep select_meant c.bind.result c.args.stores.now c.args.stores.now c.args.attempt.now.caller c.args.attempt.now.caller.cmd f)
+    (sym (too_many_meant c.args.how c.args.params.now c.args.attempt.now.caller (select_tree c.args.select.now) (items_of 0 (from_of (select_tree c.args.select.now)) (map seen c.args.trees.now)) (omega (arith, many, each)))) c.bind.ensures
 
 pub returns-then-trees-gt4-clause-few : goal.returns-then-trees-gt4-clause-few
 returns-then-trees-gt4-clause-few c =
     let many = c.if-trees-gt4.true in
     let each = c.requires.each in
-    none_meant select_meant c.bind.result c.args.stores.now c.args.how c.args.params.now c.args.caller (select_tree c.args.select.now) [] (λ ask. length c.args.trees.now ≤ 4) (omega (arith, many, each)) c.requires.may c.bind.ensures
+    none_meant select_meant c.bind.result c.args.stores.now c.args.how c.args.params.now c.args.attempt.now.caller (select_tree c.args.select.now) [] (λ ask. length c.args.trees.now ≤ 4) (omega (arith, many, each)) c.requires.may c.bind.ensures
 
 pub returns-in_err-items-clause-step : goal.returns-in_err-items-clause-step
 returns-in_err-items-clause-step c = out_here c.from_residual.ensures.1

@@ -20,7 +20,7 @@ returns-in_err-ask-clause-step c =
     let params = c.args.params.now in
     let t = select_tree c.args.select.now in
     handed_on c.from_residual-in_err-ask.ensures.1
-    (stops (meant without_from params c.args.caller t []) (found_bare c.args.caller) (moved (λ how. meant how params c.args.caller t []) _ _ c.without_from-how.ensures c.in_err-ask.ensures))
+    (stops (meant without_from params c.args.attempt.now.caller t []) (found_bare c.args.attempt.now.caller) (moved (λ how. meant how params c.args.attempt.now.caller t []) _ _ c.without_from-how.ensures c.in_err-ask.ensures))
 
 pub returns-in_err-is_cancelled-clause-step : goal.returns-in_err-is_cancelled-clause-step
 returns-in_err-is_cancelled-clause-step c = out_here c.from_residual-in_err-is_cancelled.ensures.1
@@ -30,8 +30,8 @@ returns-then-is_cancelled-clause-step c =
     let params = c.args.params.now in
     let t = select_tree c.args.select.now in
     let m = select_meant c.in_ok-ask.ask in
-    goes (meant without_from params c.args.caller t []) (found_bare c.args.caller) (moved (λ how. meant how params c.args.caller t []) _ _ c.without_from-how.ensures c.in_ok-ask.ensures)
-    (cancelled_here found_by (cancels_itself c.args.caller.session (c.args.caller.sessions - 1) m) _ (λ h. made [] (record { meant = m; trees = [] })) _ c.args.caller c.args.caller.cmd
+    goes (meant without_from params c.args.attempt.now.caller t []) (found_bare c.args.attempt.now.caller) (moved (λ how. meant how params c.args.attempt.now.caller t []) _ _ c.without_from-how.ensures c.in_ok-ask.ensures)
+    (cancelled_here found_by (cancels_itself c.args.attempt.now.caller.session (c.args.attempt.now.caller.sessions - 1) m) _ (λ h. made [] (record { meant = m; trees = [] })) _ c.args.attempt.now.caller c.args.attempt.now.caller.cmd
     c.requires (sym c.in_ok-is_cancelled.ensures ∙ c.if-is_cancelled.true) c.statement_cancelled.ensures)
 
 pub returns-clause-step : goal.returns-clause-step
@@ -39,7 +39,7 @@ returns-clause-step c =
     let params = c.args.params.now in
     let t = select_tree c.args.select.now in
     let m = select_meant c.in_ok-ask.ask in
-    goes (meant without_from params c.args.caller t []) (found_bare c.args.caller) (moved (λ how. meant how params c.args.caller t []) _ _ c.without_from-how.ensures c.in_ok-ask.ensures)
-    (not_cancelled (cancels_itself c.args.caller.session (c.args.caller.sessions - 1) m) (λ h. made [] (record { meant = m; trees = [] })) (sym c.in_ok-is_cancelled.ensures ∙ c.if-is_cancelled.false)
-    (nothing_done found_by _ _ c.args.caller (λ h. made [] (record { meant = m; trees = [] })) c.requires
-    (λ h stands. ap (λ ts. made [] (record { meant = m; trees = map seen ts })) (sym c.new-trees.ensures.items))))
+    goes (meant without_from params c.args.attempt.now.caller t []) (found_bare c.args.attempt.now.caller) (moved (λ how. meant how params c.args.attempt.now.caller t []) _ _ c.without_from-how.ensures c.in_ok-ask.ensures)
+    (not_cancelled (cancels_itself c.args.attempt.now.caller.session (c.args.attempt.now.caller.sessions - 1) m) (λ h. made [] (record { meant = m; trees = [] })) (sym c.in_ok-is_cancelled.ensures ∙ c.if-is_cancelled.false)
+    (nothing_done found_by _ _ c.args.attempt.now.caller (λ h. made [] (record { meant = m; trees = [] })) c.requires
+    (λ h stands. ap (λ ts. made [] (record { meant = m; trees = map seen ts })) (sym (c.from_vec-trees.ensures ∙ c.new.ensures.items)))))

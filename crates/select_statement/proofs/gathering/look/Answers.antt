@@ -7,5 +7,5 @@ use Rattle.select_statement.proofs.gathering.look.Goals as goal
 
 pub returns : goal.returns
 returns c =
-    IfOk-weaker c.look.result (λ snap. (h : History) → TableStands c.args.stores.now.txs h → SnapshotStands snap (look_of h c.args.caller.session c.args.caller.cmd)) (λ snap. IsLookFor c.args.stores.now c.args.caller snap)
+    IfOk-weaker c.look.result (λ snap. (h : History) → TableStands c.args.stores.now.txs h → SnapshotStands snap (look_of h c.args.attempt.now.caller.session c.args.attempt.now.caller.cmd)) (λ snap. IsLookFor c.args.stores.now c.args.attempt.now.caller snap)
     (λ snap stands. record { stands = stands; past = c.look.ensures.past; read = c.look.ensures.read }) c.look.ensures.stands

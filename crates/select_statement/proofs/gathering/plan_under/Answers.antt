@@ -14,57 +14,57 @@ use Rattle.select_statement.proofs.Whole.{as_planned, can_prune_all, plan_locked
 use Rattle.select_statement.proofs.gathering.plan_under.Goals as goal
 
 pub make_plan-requires-clause-few : goal.make_plan-requires-clause-few
-make_plan-requires-clause-few c = subst (λ ts. length ts ≤ 4) (sym c.deref.ensures.value) c.requires.few
+make_plan-requires-clause-few c = subst (λ ts. length ts ≤ 4) (sym c.as_slice.ensures) c.requires.few
 
 pub make_plan-requires-clause-prunable : goal.make_plan-requires-clause-prunable
 make_plan-requires-clause-prunable c =
-    can_prune_all c.args.stores.now c.args.caller seen c.deref.result.now (subst (All (λ t. IsTreeFor c.args.stores.now c.args.caller (seen t))) (sym c.deref.ensures.value) c.requires.trees)
+    can_prune_all c.args.stores.now c.args.attempt.now.caller seen c.as_slice.result.now (subst (All (λ t. IsTreeFor c.args.stores.now c.args.attempt.now.caller (seen t))) (sym c.as_slice.ensures) c.requires.trees)
 
 pub lock_below-requires-clause-locks : goal.lock_below-requires-clause-locks
 lock_below-requires-clause-locks c =
-    subst (All (MayLock c.args.stores.now c.args.caller)) (sym (c.deref-2.ensures.value ∙ c.in_ok-tables.ensures))
-    (plan_locked c.args.stores.now c.args.caller (select_meant c.args.found.now.ask).conditions seen c.args.found.now.trees.items c.requires.trees c.args.how _
-    (c.in_ok-plan.ensures ∙ ap (λ cs. plan_for c.args.how (map cond_tree cs) (map seen c.deref.result.now)) c.as_slice.ensures
-    ∙ ap (λ ts. plan_for c.args.how (select_meant c.args.found.now.ask).conditions (map seen ts)) c.deref.ensures.value))
+    subst (All (MayLock c.args.stores.now c.args.attempt.now.caller)) (sym (c.deref.ensures.value ∙ c.in_ok-tables.ensures))
+    (plan_locked c.args.stores.now c.args.attempt.now.caller (select_meant c.args.found.now.ask).conditions seen c.args.found.now.trees c.requires.trees c.args.how _
+    (c.in_ok-plan.ensures ∙ ap (λ cs. plan_for c.args.how (map cond_tree cs) (map seen c.as_slice.result.now)) c.as_slice-conditions.ensures
+    ∙ ap (λ ts. plan_for c.args.how (select_meant c.args.found.now.ask).conditions (map seen ts)) c.as_slice.ensures))
 
 pub returns-in_err-lock_below-clause-step : goal.returns-in_err-lock_below-clause-step
 returns-in_err-lock_below-clause-step c =
-    let is = (c.in_ok-plan.ensures ∙ ap (λ cs. plan_for c.args.how (map cond_tree cs) (map seen c.deref.result.now)) c.as_slice.ensures
-    ∙ ap (λ ts. plan_for c.args.how (select_meant c.args.found.now.ask).conditions (map seen ts)) c.deref.ensures.value) in
-    let same = c.deref-2.ensures.value ∙ c.in_ok-tables.ensures ∙ ap plan_tables is in
+    let is = (c.in_ok-plan.ensures ∙ ap (λ cs. plan_for c.args.how (map cond_tree cs) (map seen c.as_slice.result.now)) c.as_slice-conditions.ensures
+    ∙ ap (λ ts. plan_for c.args.how (select_meant c.args.found.now.ask).conditions (map seen ts)) c.as_slice.ensures) in
+    let same = c.deref.ensures.value ∙ c.in_ok-tables.ensures ∙ ap plan_tables is in
     let made_to = plan_of c.args.how (found_by c.args.found.now) in
     handed_on c.from_residual-in_err-lock_below.ensures.1
-    (stops (locked_below c.args.names.now c.args.caller (plan_tables made_to)) (λ u h. made [] (started_by c.args.how c.args.args.now made_to)) (moved (locked_below c.args.names.now c.args.caller) _ _ same c.in_err-lock_below.ensures.step))
+    (stops (locked_below c.args.attempt.now.names.now c.args.attempt.now.caller (plan_tables made_to)) (λ u h. made [] (started_by c.args.how c.args.args.now made_to)) (moved (locked_below c.args.attempt.now.names.now c.args.attempt.now.caller) _ _ same c.in_err-lock_below.ensures.step))
 
 pub start_by-requires : goal.start_by-requires
 start_by-requires c =
-    plan_prunable c.args.stores.now c.args.caller (select_meant c.args.found.now.ask).conditions seen c.args.found.now.trees.items c.requires.trees c.args.how _
-    (c.in_ok-plan.ensures ∙ ap (λ cs. plan_for c.args.how (map cond_tree cs) (map seen c.deref.result.now)) c.as_slice.ensures
-    ∙ ap (λ ts. plan_for c.args.how (select_meant c.args.found.now.ask).conditions (map seen ts)) c.deref.ensures.value)
+    plan_prunable c.args.stores.now c.args.attempt.now.caller (select_meant c.args.found.now.ask).conditions seen c.args.found.now.trees c.requires.trees c.args.how _
+    (c.in_ok-plan.ensures ∙ ap (λ cs. plan_for c.args.how (map cond_tree cs) (map seen c.as_slice.result.now)) c.as_slice-conditions.ensures
+    ∙ ap (λ ts. plan_for c.args.how (select_meant c.args.found.now.ask).conditions (map seen ts)) c.as_slice.ensures)
 
 pub returns-clause-step : goal.returns-clause-step
 returns-clause-step c =
-    let is = (c.in_ok-plan.ensures ∙ ap (λ cs. plan_for c.args.how (map cond_tree cs) (map seen c.deref.result.now)) c.as_slice.ensures
-    ∙ ap (λ ts. plan_for c.args.how (select_meant c.args.found.now.ask).conditions (map seen ts)) c.deref.ensures.value) in
-    let same = c.deref-2.ensures.value ∙ c.in_ok-tables.ensures ∙ ap plan_tables is in
+    let is = (c.in_ok-plan.ensures ∙ ap (λ cs. plan_for c.args.how (map cond_tree cs) (map seen c.as_slice.result.now)) c.as_slice-conditions.ensures
+    ∙ ap (λ ts. plan_for c.args.how (select_meant c.args.found.now.ask).conditions (map seen ts)) c.as_slice.ensures) in
+    let same = c.deref.ensures.value ∙ c.in_ok-tables.ensures ∙ ap plan_tables is in
     let made_to = plan_of c.args.how (found_by c.args.found.now) in
     let begun = started_by c.args.how c.args.args.now made_to in
-    let locks = subst (λ ts. IsStep (λ (u : Unit {0}). u) (Ok tt) c.args.stores.now c.lock_below.new.stores c.args.caller c.args.caller.cmd (locked_below c.args.names.now c.args.caller ts)) same c.in_ok-lock_below.ensures.step in
-    goes (locked_below c.args.names.now c.args.caller (plan_tables made_to)) (λ u h. made [] begun) locks
-    (nothing_done planned _ _ c.args.caller (λ h. made [] begun) (may_go_on _ _ _ _ _ _ c.requires.may locks) (λ h stands. ap (made []) (sym (c.in_ok-started.ensures ∙ ap (started_by c.args.how c.args.args.now) is))))
+    let locks = subst (λ ts. IsStep (λ (u : Unit {0}). u) (Ok tt) c.args.stores.now c.lock_below.new.stores c.args.attempt.now.caller c.args.attempt.now.caller.cmd (locked_below c.args.attempt.now.names.now c.args.attempt.now.caller ts)) same c.in_ok-lock_below.ensures.step in
+    goes (locked_below c.args.attempt.now.names.now c.args.attempt.now.caller (plan_tables made_to)) (λ u h. made [] begun) locks
+    (nothing_done planned _ _ c.args.attempt.now.caller (λ h. made [] begun) (may_go_on _ _ _ _ _ _ c.requires.may locks) (λ h stands. ap (made []) (sym (c.in_ok-started.ensures ∙ ap (started_by c.args.how c.args.args.now) is))))
 
 pub returns-clause-reads : goal.returns-clause-reads
 returns-clause-reads c =
     reads_stay c.args.stores.now c.lock_below.new.stores (all_items (planned c.in_ok-started.started)) c.lock_below.ensures.rest
-    (plan_read c.args.stores.now c.args.caller (select_meant c.args.found.now.ask).conditions seen c.args.found.now.trees.items c.requires.trees c.args.how c.args.args.now _
-    (c.in_ok-started.ensures ∙ ap (started_by c.args.how c.args.args.now) (c.in_ok-plan.ensures ∙ ap (λ cs. plan_for c.args.how (map cond_tree cs) (map seen c.deref.result.now)) c.as_slice.ensures
-    ∙ ap (λ ts. plan_for c.args.how (select_meant c.args.found.now.ask).conditions (map seen ts)) c.deref.ensures.value)))
+    (plan_read c.args.stores.now c.args.attempt.now.caller (select_meant c.args.found.now.ask).conditions seen c.args.found.now.trees c.requires.trees c.args.how c.args.args.now _
+    (c.in_ok-started.ensures ∙ ap (started_by c.args.how c.args.args.now) (c.in_ok-plan.ensures ∙ ap (λ cs. plan_for c.args.how (map cond_tree cs) (map seen c.as_slice.result.now)) c.as_slice-conditions.ensures
+    ∙ ap (λ ts. plan_for c.args.how (select_meant c.args.found.now.ask).conditions (map seen ts)) c.as_slice.ensures)))
 
 pub returns-clause-few : goal.returns-clause-few
 returns-clause-few c =
-    as_planned seen c.args.how c.args.args.now (select_meant c.args.found.now.ask).conditions c.args.found.now.trees.items _
-    (c.in_ok-started.ensures ∙ ap (started_by c.args.how c.args.args.now) (c.in_ok-plan.ensures ∙ ap (λ cs. plan_for c.args.how (map cond_tree cs) (map seen c.deref.result.now)) c.as_slice.ensures
-    ∙ ap (λ ts. plan_for c.args.how (select_meant c.args.found.now.ask).conditions (map seen ts)) c.deref.ensures.value)) c.requires.few
+    as_planned seen c.args.how c.args.args.now (select_meant c.args.found.now.ask).conditions c.args.found.now.trees _
+    (c.in_ok-started.ensures ∙ ap (started_by c.args.how c.args.args.now) (c.in_ok-plan.ensures ∙ ap (λ cs. plan_for c.args.how (map cond_tree cs) (map seen c.as_slice.result.now)) c.as_slice-conditions.ensures
+    ∙ ap (λ ts. plan_for c.args.how (select_meant c.args.found.now.ask).conditions (map seen ts)) c.as_slice.ensures)) c.requires.few
 
 pub returns-in_err-plan-clause-step : goal.returns-in_err-plan-clause-step
 returns-in_err-plan-clause-step c = out_here c.from_residual.ensures.1

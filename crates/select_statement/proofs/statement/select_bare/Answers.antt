@@ -19,18 +19,18 @@ pub returns-in_err-found : goal.returns-in_err-found
 returns-in_err-found c =
     let params = c.args.params.now in
     let t = select_tree c.args.select.now in
-    handed_on c.from_residual-in_err-found.ensures.1 (goes (begins c.args.caller) (λ u. bare params c.args.caller t) c.in_ok-hold_if_repeatable.ensures.step
-    (bare_step params c.args.caller t (stops (gathered_bare params c.args.caller t) (bare_answered params c.args.caller t) c.in_err-found.ensures.step)))
+    handed_on c.from_residual-in_err-found.ensures.1 (goes (begins c.args.attempt.now.caller) (λ u. bare params c.args.attempt.now.caller t) c.in_ok-hold_if_repeatable.ensures.step
+    (bare_step params c.args.attempt.now.caller t (stops (gathered_bare params c.args.attempt.now.caller t) (bare_answered params c.args.attempt.now.caller t) c.in_err-found.ensures.step)))
 
 pub make_plan-requires-clause-few : goal.make_plan-requires-clause-few
-make_plan-requires-clause-few c = subst (λ ts. length ts ≤ 4) (sym (c.deref.ensures.value ∙ c.in_ok-found.ensures.trees)) (omega arith)
+make_plan-requires-clause-few c = subst (λ ts. length ts ≤ 4) (sym (c.as_slice-2.ensures ∙ c.in_ok-found.ensures.trees)) (omega arith)
 
 pub make_plan-requires-clause-prunable : goal.make_plan-requires-clause-prunable
-make_plan-requires-clause-prunable c = subst (All (λ t. CanPrune (seen t))) (sym (c.deref.ensures.value ∙ c.in_ok-found.ensures.trees)) (All-nil (λ t. CanPrune (seen t)))
+make_plan-requires-clause-prunable c = subst (All (λ t. CanPrune (seen t))) (sym (c.as_slice-2.ensures ∙ c.in_ok-found.ensures.trees)) (All-nil (λ t. CanPrune (seen t)))
 
 pub returns-in_err-plan : goal.returns-in_err-plan
 returns-in_err-plan c =
-    goes (begins c.args.caller) (λ u. bare c.args.params.now c.args.caller (select_tree c.args.select.now)) c.in_ok-hold_if_repeatable.ensures.step
+    goes (begins c.args.attempt.now.caller) (λ u. bare c.args.params.now c.args.attempt.now.caller (select_tree c.args.select.now)) c.in_ok-hold_if_repeatable.ensures.step
     (out_behind c.from_residual-in_err-plan.ensures.1 c.in_ok-found.ensures.step)
 
 pub answer-requires-clause-may : goal.answer-requires-clause-may
@@ -39,15 +39,15 @@ answer-requires-clause-may c = may_go_on _ _ _ _ _ _ c.requires c.in_ok-hold_if_
 pub answer-requires-clause-reads : goal.answer-requires-clause-reads
 answer-requires-clause-reads c =
     subst (λ (p : Planned). All (CanRead c.hold_if_repeatable.new.stores.rows.leaves) (all_items p))
-    (sym (c.in_ok-plan.ensures ∙ ap (λ ts. plan_for c.without_from.result (map cond_tree c.as_slice.result.now) (map seen ts)) (c.deref.ensures.value ∙ c.in_ok-found.ensures.trees))) (All-nil (CanRead c.hold_if_repeatable.new.stores.rows.leaves))
+    (sym (c.in_ok-plan.ensures ∙ ap (λ ts. plan_for c.without_from.result (map cond_tree c.as_slice.result.now) (map seen ts)) (c.as_slice-2.ensures ∙ c.in_ok-found.ensures.trees))) (All-nil (CanRead c.hold_if_repeatable.new.stores.rows.leaves))
 
 pub returns : goal.returns
 returns c =
     let params = c.args.params.now in
     let t = select_tree c.args.select.now in
     let m = select_meant c.in_ok-found.found.ask in
-    let is = c.in_ok-plan.ensures ∙ ap (λ cs. plan_for c.without_from.result (map cond_tree cs) (map seen c.deref.result.now)) c.as_slice.ensures
-    ∙ ap (λ ts. plan_for c.without_from.result m.conditions (map seen ts)) (c.deref.ensures.value ∙ c.in_ok-found.ensures.trees) in
-    goes (begins c.args.caller) (λ u. bare params c.args.caller t) c.in_ok-hold_if_repeatable.ensures.step
-    (bare_step params c.args.caller t (goes (gathered_bare params c.args.caller t) (bare_answered params c.args.caller t) c.in_ok-found.ensures.step
-    (moved (answered c.args.caller [] m) _ _ is c.answer.ensures)))
+    let is = c.in_ok-plan.ensures ∙ ap (λ cs. plan_for c.without_from.result (map cond_tree cs) (map seen c.as_slice-2.result.now)) c.as_slice.ensures
+    ∙ ap (λ ts. plan_for c.without_from.result m.conditions (map seen ts)) (c.as_slice-2.ensures ∙ c.in_ok-found.ensures.trees) in
+    goes (begins c.args.attempt.now.caller) (λ u. bare params c.args.attempt.now.caller t) c.in_ok-hold_if_repeatable.ensures.step
+    (bare_step params c.args.attempt.now.caller t (goes (gathered_bare params c.args.attempt.now.caller t) (bare_answered params c.args.attempt.now.caller t) c.in_ok-found.ensures.step
+    (moved (answered c.args.attempt.now.caller [] m) _ _ is c.answer.ensures)))

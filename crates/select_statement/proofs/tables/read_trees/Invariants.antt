@@ -11,6 +11,6 @@ use Rattle.select_statement.proofs.tables.read_trees.Given as goal
 abbrev pub invariant-loop-table : goal.invariant-loop-table
 invariant-loop-table l = record {
   same : l.stores ≡ l.fn.stores;
-  trees : (h : History) → Stands l.fn.stores h → map seen l.trees.items ++ trees_for l.caller (map number_of (drop l.table-index l.tables)) h ≡ trees_for l.caller (map number_of l.tables) h;
-  each : All (λ t. IsTreeFor l.fn.stores l.caller (seen t)) l.trees.items;
+  trees : (h : History) → Stands l.fn.stores h → map seen l.trees.items ++ trees_for l.attempt.caller (map number_of (drop l.table-index l.tables)) h ≡ trees_for l.attempt.caller (map number_of l.tables) h;
+  each : All (λ t. IsTreeFor l.fn.stores l.attempt.caller (seen t)) l.trees.items;
 }

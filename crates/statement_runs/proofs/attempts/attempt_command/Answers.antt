@@ -1,7 +1,6 @@
 use Rattle.std.proofs.Common.{List, [], ℕ, ◌+◌, Result, Ok, sym, subst}
 use Rattle.history.specs.History.{History}
-use Rattle.sql_ast.specs.Commands.{bound_tree, command_tree, detaches}
-use Rattle.sql_ast.specs.declared.detachment.Detachment.{Detachment}
+use Rattle.sql_ast.specs.Commands.{bound_tree, command_tree}
 use Rattle.sql_ast.specs.declared.locked_table.LockedTable.{LockedTable}
 use Rattle.sql_ast.specs.declared.command.Command.{Command}
 use Rattle.statement_steps.specs.Ended.{Ended, ended}
@@ -13,87 +12,56 @@ use Rattle.table_statements.specs.Tables.{created}
 use Rattle.table_statements.specs.Partitions.{partitioned}
 use Rattle.table_statements.specs.Drops.{dropped}
 use Rattle.table_statements.specs.Locked.{locked}
-use Rattle.alter_table.specs.Concurrent.{detached_concurrently}
-use Rattle.alter_table.specs.Detached.{detached}
-use Rattle.alter_table.specs.Finalized.{finalized}
-use Rattle.alter_table.specs.Attached.{attached}
 use Rattle.prepared_statements.specs.Kept.{listed}
 use Rattle.prepared_statements.specs.Prepared.{deallocated}
 use Rattle.statement_runs.specs.Attempted.{command_attempted, listing, omitted}
 use Rattle.statement_runs.specs.Executions.{command_kept, listed_after}
 use Rattle.statement_runs.specs.Printed.{IsKept, IsStatement}
-use Rattle.statement_runs.proofs.Whole.{command_omitted, kept_still, others_keep, silent_ends, staged_is}
+use Rattle.statement_runs.proofs.Whole.{command_omitted, kept_still, others_keep, silent_ends}
 use Rattle.statement_runs.proofs.attempts.attempt_command.Goals as goal
 
 pub returns-in-CreateTable-clause-is : goal.returns-in-CreateTable-clause-is
 returns-in-CreateTable-clause-is c =
     let i = c.in-CreateTable in
-    let is = silent_ends c.args.rest c.ended.result c.create_table.result c.ended.ensures c.args.stores.now c.create_table.new.stores c.args.caller (created c.args.names.now c.args.caller i.name i.columns i.by) c.args.out.now c.create_table.ensures in
-    subst (λ (x : Command). IsStatement c.args.rest c.ended.result c.args.stores.now c.create_table.new.stores c.args.out.now c.args.out.now c.args.caller (command_attempted c.args.names.now c.args.caller c.args.rest (listed c.args.prepared.now) (command_tree x))) (sym i.is) is
+    let is = silent_ends c.args.rest c.ended.result c.create_table.result c.ended.ensures c.args.stores.now c.create_table.new.stores c.args.attempt.now.caller (created c.args.attempt.now.names.now c.args.attempt.now.caller i.name i.columns i.by) c.args.out.now c.create_table.ensures in
+    subst (λ (x : Command). IsStatement c.args.rest c.ended.result c.args.stores.now c.create_table.new.stores c.args.out.now c.args.out.now c.args.attempt.now.caller (command_attempted c.args.attempt.now.names.now c.args.attempt.now.caller c.args.rest (listed c.args.prepared.now) (command_tree x))) (sym i.is) is
 
 pub returns-in-CreatePartition-clause-is : goal.returns-in-CreatePartition-clause-is
 returns-in-CreatePartition-clause-is c =
     let i = c.in-CreatePartition in
-    let is = silent_ends c.args.rest c.ended-in-CreatePartition.result c.create_partition.result c.ended-in-CreatePartition.ensures c.args.stores.now c.create_partition.new.stores c.args.caller (partitioned c.args.names.now c.args.caller i.name i.parent (bound_tree i.bound) i.by) c.args.out.now c.create_partition.ensures in
-    subst (λ (x : Command). IsStatement c.args.rest c.ended-in-CreatePartition.result c.args.stores.now c.create_partition.new.stores c.args.out.now c.args.out.now c.args.caller (command_attempted c.args.names.now c.args.caller c.args.rest (listed c.args.prepared.now) (command_tree x))) (sym i.is) is
+    let is = silent_ends c.args.rest c.ended-in-CreatePartition.result c.create_partition.result c.ended-in-CreatePartition.ensures c.args.stores.now c.create_partition.new.stores c.args.attempt.now.caller (partitioned c.args.attempt.now.names.now c.args.attempt.now.caller i.name i.parent (bound_tree i.bound) i.by) c.args.out.now c.create_partition.ensures in
+    subst (λ (x : Command). IsStatement c.args.rest c.ended-in-CreatePartition.result c.args.stores.now c.create_partition.new.stores c.args.out.now c.args.out.now c.args.attempt.now.caller (command_attempted c.args.attempt.now.names.now c.args.attempt.now.caller c.args.rest (listed c.args.prepared.now) (command_tree x))) (sym i.is) is
 
 pub returns-in-DropTables-clause-is : goal.returns-in-DropTables-clause-is
 returns-in-DropTables-clause-is c =
     let i = c.in-DropTables in
-    let step = subst (λ (ts : List (List ℕ)). IsStep (λ (u : Unit {0}). u) c.drop_tables.result c.args.stores.now c.drop_tables.new.stores c.args.caller (c.args.caller.cmd + 1) (dropped c.args.names.now c.args.caller i.if_there ts)) c.as_slice-tables.ensures c.drop_tables.ensures in
-    let is = silent_ends c.args.rest c.ended-in-DropTables.result c.drop_tables.result c.ended-in-DropTables.ensures c.args.stores.now c.drop_tables.new.stores c.args.caller (dropped c.args.names.now c.args.caller i.if_there i.tables) c.args.out.now step in
-    subst (λ (x : Command). IsStatement c.args.rest c.ended-in-DropTables.result c.args.stores.now c.drop_tables.new.stores c.args.out.now c.args.out.now c.args.caller (command_attempted c.args.names.now c.args.caller c.args.rest (listed c.args.prepared.now) (command_tree x))) (sym i.is) is
+    let step = subst (λ (ts : List (List ℕ)). IsStep (λ (u : Unit {0}). u) c.drop_tables.result c.args.stores.now c.drop_tables.new.stores c.args.attempt.now.caller (c.args.attempt.now.caller.cmd + 1) (dropped c.args.attempt.now.names.now c.args.attempt.now.caller i.if_there ts)) c.as_slice-tables.ensures c.drop_tables.ensures in
+    let is = silent_ends c.args.rest c.ended-in-DropTables.result c.drop_tables.result c.ended-in-DropTables.ensures c.args.stores.now c.drop_tables.new.stores c.args.attempt.now.caller (dropped c.args.attempt.now.names.now c.args.attempt.now.caller i.if_there i.tables) c.args.out.now step in
+    subst (λ (x : Command). IsStatement c.args.rest c.ended-in-DropTables.result c.args.stores.now c.drop_tables.new.stores c.args.out.now c.args.out.now c.args.attempt.now.caller (command_attempted c.args.attempt.now.names.now c.args.attempt.now.caller c.args.rest (listed c.args.prepared.now) (command_tree x))) (sym i.is) is
 
 pub returns-in-Attach-clause-is : goal.returns-in-Attach-clause-is
 returns-in-Attach-clause-is c =
-    let i = c.in-Attach in
-    let parented = subst (λ (p : List ℕ). IsStep (λ (u : Unit {0}). u) c.attach.result c.args.stores.now c.attach.new.stores c.args.caller (c.args.caller.cmd + 1) (attached c.args.names.now c.args.caller p c.as_bytes-table.result.now (bound_tree i.bound))) c.as_bytes-above.ensures c.attach.ensures in
-    let step = subst (λ (n : List ℕ). IsStep (λ (u : Unit {0}). u) c.attach.result c.args.stores.now c.attach.new.stores c.args.caller (c.args.caller.cmd + 1) (attached c.args.names.now c.args.caller i.parent n (bound_tree i.bound))) c.as_bytes-table.ensures parented in
-    let is = silent_ends c.args.rest c.ended-in-Attach.result c.attach.result c.ended-in-Attach.ensures c.args.stores.now c.attach.new.stores c.args.caller (attached c.args.names.now c.args.caller i.parent i.name (bound_tree i.bound)) c.args.out.now step in
-    subst (λ (x : Command). IsStatement c.args.rest c.ended-in-Attach.result c.args.stores.now c.attach.new.stores c.args.out.now c.args.out.now c.args.caller (command_attempted c.args.names.now c.args.caller c.args.rest (listed c.args.prepared.now) (command_tree x))) (sym i.is) is
+    subst (λ (x : Command). IsStatement c.args.rest c.attempt_attach.result c.args.stores.now c.attempt_attach.new.stores c.args.out.now c.args.out.now c.args.attempt.now.caller (command_attempted c.args.attempt.now.names.now c.args.attempt.now.caller c.args.rest (listed c.args.prepared.now) (command_tree x))) (sym c.in-Attach.is) (c.attempt_attach.ensures c.args.rest (listed c.args.prepared.now))
 
-pub returns-in-AtOnce-clause-is : goal.returns-in-AtOnce-clause-is
-returns-in-AtOnce-clause-is c =
-    let i = c.in-Detach in
-    let parented = subst (λ (p : List ℕ). IsStep (λ (u : Unit {0}). u) c.detach.result c.args.stores.now c.detach.new.stores c.args.caller (c.args.caller.cmd + 1) (detached c.args.names.now c.args.caller p c.as_bytes-table-in-Detach.result.now)) c.as_bytes-above-in-Detach.ensures c.detach.ensures in
-    let step = subst (λ (n : List ℕ). IsStep (λ (u : Unit {0}). u) c.detach.result c.args.stores.now c.detach.new.stores c.args.caller (c.args.caller.cmd + 1) (detached c.args.names.now c.args.caller i.parent n)) c.as_bytes-table-in-Detach.ensures parented in
-    let is = silent_ends c.args.rest c.ended-in-AtOnce.result c.detach.result c.ended-in-AtOnce.ensures c.args.stores.now c.detach.new.stores c.args.caller (detached c.args.names.now c.args.caller i.parent i.name) c.args.out.now step in
-    let so = subst (λ (how : Detachment). IsStatement c.args.rest c.ended-in-AtOnce.result c.args.stores.now c.detach.new.stores c.args.out.now c.args.out.now c.args.caller (command_attempted c.args.names.now c.args.caller c.args.rest (listed c.args.prepared.now) (detaches i.parent i.name how))) (sym c.in-AtOnce.is) is in
-    subst (λ (x : Command). IsStatement c.args.rest c.ended-in-AtOnce.result c.args.stores.now c.detach.new.stores c.args.out.now c.args.out.now c.args.caller (command_attempted c.args.names.now c.args.caller c.args.rest (listed c.args.prepared.now) (command_tree x))) (sym i.is) so
-
-pub returns-in-Concurrently-clause-is : goal.returns-in-Concurrently-clause-is
-returns-in-Concurrently-clause-is c =
-    let i = c.in-Detach in
-    let parented = subst (λ (p : List ℕ). IsStep (λ (e : Ending). e) c.detach_concurrently.result c.args.stores.now c.detach_concurrently.new.stores c.args.caller (c.args.caller.cmd + 1) (detached_concurrently c.args.names.now c.args.caller c.args.rest p c.as_bytes-table-in-Detach.result.now)) c.as_bytes-above-in-Detach.ensures c.detach_concurrently.ensures in
-    let step = subst (λ (n : List ℕ). IsStep (λ (e : Ending). e) c.detach_concurrently.result c.args.stores.now c.detach_concurrently.new.stores c.args.caller (c.args.caller.cmd + 1) (detached_concurrently c.args.names.now c.args.caller c.args.rest i.parent n)) c.as_bytes-table-in-Detach.ensures parented in
-    let is = staged_is c.args.rest c.detach_concurrently.result c.args.stores.now c.detach_concurrently.new.stores c.args.caller (detached_concurrently c.args.names.now c.args.caller c.args.rest i.parent i.name) c.args.out.now step in
-    let so = subst (λ (how : Detachment). IsStatement c.args.rest c.detach_concurrently.result c.args.stores.now c.detach_concurrently.new.stores c.args.out.now c.args.out.now c.args.caller (command_attempted c.args.names.now c.args.caller c.args.rest (listed c.args.prepared.now) (detaches i.parent i.name how))) (sym c.in-Concurrently.is) is in
-    subst (λ (x : Command). IsStatement c.args.rest c.detach_concurrently.result c.args.stores.now c.detach_concurrently.new.stores c.args.out.now c.args.out.now c.args.caller (command_attempted c.args.names.now c.args.caller c.args.rest (listed c.args.prepared.now) (command_tree x))) (sym i.is) so
-
-pub returns-in-Finalize-clause-is : goal.returns-in-Finalize-clause-is
-returns-in-Finalize-clause-is c =
-    let i = c.in-Detach in
-    let parented = subst (λ (p : List ℕ). IsStep (λ (u : Unit {0}). u) c.finalize.result c.args.stores.now c.finalize.new.stores c.args.caller (c.args.caller.cmd + 1) (finalized c.args.names.now c.args.caller p c.as_bytes-table-in-Detach.result.now)) c.as_bytes-above-in-Detach.ensures c.finalize.ensures in
-    let step = subst (λ (n : List ℕ). IsStep (λ (u : Unit {0}). u) c.finalize.result c.args.stores.now c.finalize.new.stores c.args.caller (c.args.caller.cmd + 1) (finalized c.args.names.now c.args.caller i.parent n)) c.as_bytes-table-in-Detach.ensures parented in
-    let is = silent_ends c.args.rest c.ended-in-Finalize.result c.finalize.result c.ended-in-Finalize.ensures c.args.stores.now c.finalize.new.stores c.args.caller (finalized c.args.names.now c.args.caller i.parent i.name) c.args.out.now step in
-    let so = subst (λ (how : Detachment). IsStatement c.args.rest c.ended-in-Finalize.result c.args.stores.now c.finalize.new.stores c.args.out.now c.args.out.now c.args.caller (command_attempted c.args.names.now c.args.caller c.args.rest (listed c.args.prepared.now) (detaches i.parent i.name how))) (sym c.in-Finalize.is) is in
-    subst (λ (x : Command). IsStatement c.args.rest c.ended-in-Finalize.result c.args.stores.now c.finalize.new.stores c.args.out.now c.args.out.now c.args.caller (command_attempted c.args.names.now c.args.caller c.args.rest (listed c.args.prepared.now) (command_tree x))) (sym i.is) so
+pub returns-in-Detach-clause-is : goal.returns-in-Detach-clause-is
+returns-in-Detach-clause-is c =
+    subst (λ (x : Command). IsStatement c.args.rest c.attempt_detach.result c.args.stores.now c.attempt_detach.new.stores c.args.out.now c.args.out.now c.args.attempt.now.caller (command_attempted c.args.attempt.now.names.now c.args.attempt.now.caller c.args.rest (listed c.args.prepared.now) (command_tree x))) (sym c.in-Detach.is) (c.attempt_detach.ensures (listed c.args.prepared.now))
 
 pub returns-in-Lock-clause-is : goal.returns-in-Lock-clause-is
 returns-in-Lock-clause-is c =
     let i = c.in-Lock in
-    let step = subst (λ (ts : List LockedTable). IsStep (λ (u : Unit {0}). u) c.lock.result c.args.stores.now c.lock.new.stores c.args.caller (c.args.caller.cmd + 1) (locked c.args.names.now c.args.caller.session ts i.mode)) c.as_slice-tables-in-Lock.ensures c.lock.ensures in
-    let is = silent_ends c.args.rest c.ended-in-Lock.result c.lock.result c.ended-in-Lock.ensures c.args.stores.now c.lock.new.stores c.args.caller (locked c.args.names.now c.args.caller.session i.tables i.mode) c.args.out.now step in
-    subst (λ (x : Command). IsStatement c.args.rest c.ended-in-Lock.result c.args.stores.now c.lock.new.stores c.args.out.now c.args.out.now c.args.caller (command_attempted c.args.names.now c.args.caller c.args.rest (listed c.args.prepared.now) (command_tree x))) (sym i.is) is
+    let step = subst (λ (ts : List LockedTable). IsStep (λ (u : Unit {0}). u) c.lock.result c.args.stores.now c.lock.new.stores c.args.attempt.now.caller (c.args.attempt.now.caller.cmd + 1) (locked c.args.attempt.now.names.now c.args.attempt.now.caller.session ts i.mode)) c.as_slice-tables-in-Lock.ensures c.lock.ensures in
+    let is = silent_ends c.args.rest c.ended-in-Lock.result c.lock.result c.ended-in-Lock.ensures c.args.stores.now c.lock.new.stores c.args.attempt.now.caller (locked c.args.attempt.now.names.now c.args.attempt.now.caller.session i.tables i.mode) c.args.out.now step in
+    subst (λ (x : Command). IsStatement c.args.rest c.ended-in-Lock.result c.args.stores.now c.lock.new.stores c.args.out.now c.args.out.now c.args.attempt.now.caller (command_attempted c.args.attempt.now.names.now c.args.attempt.now.caller c.args.rest (listed c.args.prepared.now) (command_tree x))) (sym i.is) is
 
 pub returns-in_default-clause-is : goal.returns-in_default-clause-is
 returns-in_default-clause-is c =
     let s = c.args.stores.now in
     let out = c.args.out.now in
     let i = c.in_default in
-    subst (λ (r : Result Ending Stop). IsStatement c.args.rest r s s out out c.args.caller (command_attempted c.args.names.now c.args.caller c.args.rest (listed c.args.prepared.now) (command_tree c.args.command.now))) (sym c.ended-in_default.ensures)
-    (subst (λ (f : History → Made Ended). IsStatement c.args.rest (ended c.omit.result) s s out out c.args.caller f) (sym (command_omitted c.args.names.now c.args.caller c.args.rest (listed c.args.prepared.now) c.args.command.now i.not-CreateTable i.not-CreatePartition i.not-DropTables i.not-Attach i.not-Detach i.not-Lock i.not-Deallocate i.not-DeallocateAll))
-    (subst (λ (w : List ℕ). IsStatement c.args.rest (ended c.omit.result) s s out out c.args.caller (omitted w)) c.command_word.ensures (c.omit.ensures c.args.rest)))
+    subst (λ (r : Result Ending Stop). IsStatement c.args.rest r s s out out c.args.attempt.now.caller (command_attempted c.args.attempt.now.names.now c.args.attempt.now.caller c.args.rest (listed c.args.prepared.now) (command_tree c.args.command.now))) (sym c.ended-in_default.ensures)
+    (subst (λ (f : History → Made Ended). IsStatement c.args.rest (ended c.omit.result) s s out out c.args.attempt.now.caller f) (sym (command_omitted c.args.attempt.now.names.now c.args.attempt.now.caller c.args.rest (listed c.args.prepared.now) c.args.command.now i.not-CreateTable i.not-CreatePartition i.not-DropTables i.not-Attach i.not-Detach i.not-Lock i.not-Deallocate i.not-DeallocateAll))
+    (subst (λ (w : List ℕ). IsStatement c.args.rest (ended c.omit.result) s s out out c.args.attempt.now.caller (omitted w)) c.command_word.ensures (c.omit.ensures c.args.rest)))
 
 -- ---- what is prepared
 
@@ -115,22 +83,12 @@ returns-in-DropTables-clause-kept c =
 pub returns-in-Attach-clause-kept : goal.returns-in-Attach-clause-kept
 returns-in-Attach-clause-kept c =
     let ps = listed c.args.prepared.now in
-    subst (λ (x : Command). IsKept c.ended-in-Attach.result ps ps (command_kept ps (command_tree x))) (sym c.in-Attach.is) (kept_still c.ended-in-Attach.result ps)
+    subst (λ (x : Command). IsKept c.attempt_attach.result ps ps (command_kept ps (command_tree x))) (sym c.in-Attach.is) (kept_still c.attempt_attach.result ps)
 
-pub returns-in-AtOnce-clause-kept : goal.returns-in-AtOnce-clause-kept
-returns-in-AtOnce-clause-kept c =
+pub returns-in-Detach-clause-kept : goal.returns-in-Detach-clause-kept
+returns-in-Detach-clause-kept c =
     let ps = listed c.args.prepared.now in
-    subst (λ (x : Command). IsKept c.ended-in-AtOnce.result ps ps (command_kept ps (command_tree x))) (sym c.in-Detach.is) (kept_still c.ended-in-AtOnce.result ps)
-
-pub returns-in-Concurrently-clause-kept : goal.returns-in-Concurrently-clause-kept
-returns-in-Concurrently-clause-kept c =
-    let ps = listed c.args.prepared.now in
-    subst (λ (x : Command). IsKept c.detach_concurrently.result ps ps (command_kept ps (command_tree x))) (sym c.in-Detach.is) (kept_still c.detach_concurrently.result ps)
-
-pub returns-in-Finalize-clause-kept : goal.returns-in-Finalize-clause-kept
-returns-in-Finalize-clause-kept c =
-    let ps = listed c.args.prepared.now in
-    subst (λ (x : Command). IsKept c.ended-in-Finalize.result ps ps (command_kept ps (command_tree x))) (sym c.in-Detach.is) (kept_still c.ended-in-Finalize.result ps)
+    subst (λ (x : Command). IsKept c.attempt_detach.result ps ps (command_kept ps (command_tree x))) (sym c.in-Detach.is) (kept_still c.attempt_detach.result ps)
 
 pub returns-in-Lock-clause-kept : goal.returns-in-Lock-clause-kept
 returns-in-Lock-clause-kept c =
@@ -148,9 +106,9 @@ returns-in-Deallocate-clause-is c =
     let old = c.args.stores.now in
     let new = c.attempt_deallocate.new.stores in
     let n = c.in-Deallocate.name in
-    let step = subst (λ (x : List ℕ). IsStep (λ (u : Unit {0}). u) c.attempt_deallocate.result old new c.args.caller (c.args.caller.cmd + 1) (listing c.args.caller (deallocated ps x))) c.as_bytes-name.ensures c.attempt_deallocate.ensures.is in
-    let is = silent_ends c.args.rest c.ended-in-Deallocate.result c.attempt_deallocate.result c.ended-in-Deallocate.ensures old new c.args.caller (listing c.args.caller (deallocated ps n)) c.args.out.now step in
-    subst (λ (x : Command). IsStatement c.args.rest c.ended-in-Deallocate.result old new c.args.out.now c.args.out.now c.args.caller (command_attempted c.args.names.now c.args.caller c.args.rest ps (command_tree x))) (sym c.in-Deallocate.is) is
+    let step = subst (λ (x : List ℕ). IsStep (λ (u : Unit {0}). u) c.attempt_deallocate.result old new c.args.attempt.now.caller (c.args.attempt.now.caller.cmd + 1) (listing c.args.attempt.now.caller (deallocated ps x))) c.as_bytes-name.ensures c.attempt_deallocate.ensures.is in
+    let is = silent_ends c.args.rest c.ended-in-Deallocate.result c.attempt_deallocate.result c.ended-in-Deallocate.ensures old new c.args.attempt.now.caller (listing c.args.attempt.now.caller (deallocated ps n)) c.args.out.now step in
+    subst (λ (x : Command). IsStatement c.args.rest c.ended-in-Deallocate.result old new c.args.out.now c.args.out.now c.args.attempt.now.caller (command_attempted c.args.attempt.now.names.now c.args.attempt.now.caller c.args.rest ps (command_tree x))) (sym c.in-Deallocate.is) is
 
 pub returns-in-Deallocate-clause-kept : goal.returns-in-Deallocate-clause-kept
 returns-in-Deallocate-clause-kept c =
@@ -165,8 +123,8 @@ returns-in-DeallocateAll-clause-is c =
     let ps = listed c.args.prepared.now in
     let old = c.args.stores.now in
     let new = c.attempt_deallocate_all.new.stores in
-    let is = silent_ends c.args.rest c.ended-in-DeallocateAll.result c.attempt_deallocate_all.result c.ended-in-DeallocateAll.ensures old new c.args.caller (listing c.args.caller (Ok [])) c.args.out.now c.attempt_deallocate_all.ensures.is in
-    subst (λ (x : Command). IsStatement c.args.rest c.ended-in-DeallocateAll.result old new c.args.out.now c.args.out.now c.args.caller (command_attempted c.args.names.now c.args.caller c.args.rest ps (command_tree x))) (sym c.in-DeallocateAll.is) is
+    let is = silent_ends c.args.rest c.ended-in-DeallocateAll.result c.attempt_deallocate_all.result c.ended-in-DeallocateAll.ensures old new c.args.attempt.now.caller (listing c.args.attempt.now.caller (Ok [])) c.args.out.now c.attempt_deallocate_all.ensures.is in
+    subst (λ (x : Command). IsStatement c.args.rest c.ended-in-DeallocateAll.result old new c.args.out.now c.args.out.now c.args.attempt.now.caller (command_attempted c.args.attempt.now.names.now c.args.attempt.now.caller c.args.rest ps (command_tree x))) (sym c.in-DeallocateAll.is) is
 
 pub returns-in-DeallocateAll-clause-kept : goal.returns-in-DeallocateAll-clause-kept
 returns-in-DeallocateAll-clause-kept c =

@@ -16,13 +16,13 @@ use Rattle.statement_runs.proofs.attempts.attempt_query.Goals as goal
 
 pub returns-in-Rows-clause-is : goal.returns-in-Rows-clause-is
 returns-in-Rows-clause-is c =
-    subst (λ (x : Query). IsStatement c.args.rest (ended c.attempt_rows.result) c.args.stores.now c.attempt_rows.new.stores c.args.out.now.items c.attempt_rows.new.out.items c.args.caller
-    (query_attempted c.args.trailed c.args.how c.args.names.now c.args.caller c.args.rest (listed c.args.prepared.now) (query_tree x))) (sym c.in-Rows.is)
+    subst (λ (x : Query). IsStatement c.args.rest (ended c.attempt_rows.result) c.args.stores.now c.attempt_rows.new.stores c.args.out.now.items c.attempt_rows.new.out.items c.args.attempt.now.caller
+    (query_attempted c.args.trailed c.args.how c.args.attempt.now.names.now c.args.attempt.now.caller c.args.rest (listed c.args.prepared.now) (query_tree x))) (sym c.in-Rows.is)
     c.attempt_rows.ensures.is
 
 pub returns-in-Rows-clause-tally : goal.returns-in-Rows-clause-tally
 returns-in-Rows-clause-tally c h stands at go =
-    subst (λ (x : Query). Grows c.attempt_rows.result c.args.tally.now c.attempt_rows.new.tally (query_given c.args.how c.args.names.now c.args.caller c.args.rest (listed c.args.prepared.now) (query_tree x) h)) (sym c.in-Rows.is)
+    subst (λ (x : Query). Grows c.attempt_rows.result c.args.tally.now c.attempt_rows.new.tally (query_given c.args.how c.args.attempt.now.names.now c.args.attempt.now.caller c.args.rest (listed c.args.prepared.now) (query_tree x) h)) (sym c.in-Rows.is)
     (c.attempt_rows.ensures.tally h stands at go)
 
 pub returns-in-Rows-clause-kept : goal.returns-in-Rows-clause-kept
@@ -32,13 +32,13 @@ returns-in-Rows-clause-kept c =
 pub returns-in-Prepare-clause-is : goal.returns-in-Prepare-clause-is
 returns-in-Prepare-clause-is c =
     let p = c.in-Prepare in
-    let is = silent_is c.args.rest c.attempt_prepare.result c.args.stores.now c.attempt_prepare.new.stores c.args.caller (listing c.args.caller (prepared (listed c.args.prepared.now) p.name p.types (row_tree p.s.value))) c.args.out.now.items c.attempt_prepare.ensures.is in
-    subst (λ (x : Query). IsStatement c.args.rest (ended c.attempt_prepare.result) c.args.stores.now c.attempt_prepare.new.stores c.args.out.now.items c.args.out.now.items c.args.caller
-    (query_attempted c.args.trailed c.args.how c.args.names.now c.args.caller c.args.rest (listed c.args.prepared.now) (query_tree x))) (sym p.is) is
+    let is = silent_is c.args.rest c.attempt_prepare.result c.args.stores.now c.attempt_prepare.new.stores c.args.attempt.now.caller (listing c.args.attempt.now.caller (prepared (listed c.args.prepared.now) p.name p.types (row_tree p.s.value))) c.args.out.now.items c.attempt_prepare.ensures.is in
+    subst (λ (x : Query). IsStatement c.args.rest (ended c.attempt_prepare.result) c.args.stores.now c.attempt_prepare.new.stores c.args.out.now.items c.args.out.now.items c.args.attempt.now.caller
+    (query_attempted c.args.trailed c.args.how c.args.attempt.now.names.now c.args.attempt.now.caller c.args.rest (listed c.args.prepared.now) (query_tree x))) (sym p.is) is
 
 pub returns-in-Prepare-clause-tally : goal.returns-in-Prepare-clause-tally
 returns-in-Prepare-clause-tally c h stands at go =
-    subst (λ (x : Query). Grows c.attempt_prepare.result c.args.tally.now c.args.tally.now (query_given c.args.how c.args.names.now c.args.caller c.args.rest (listed c.args.prepared.now) (query_tree x) h)) (sym c.in-Prepare.is)
+    subst (λ (x : Query). Grows c.attempt_prepare.result c.args.tally.now c.args.tally.now (query_given c.args.how c.args.attempt.now.names.now c.args.attempt.now.caller c.args.rest (listed c.args.prepared.now) (query_tree x) h)) (sym c.in-Prepare.is)
     (stays_same c.attempt_prepare.result c.args.tally.now)
 
 pub returns-in-Prepare-clause-kept : goal.returns-in-Prepare-clause-kept
@@ -47,16 +47,16 @@ returns-in-Prepare-clause-kept c =
 
 pub returns-in-Execute-clause-is : goal.returns-in-Execute-clause-is
 returns-in-Execute-clause-is c =
-    subst (λ (x : Query). IsStatement c.args.rest (ended c.attempt_execute.result) c.args.stores.now c.attempt_execute.new.stores c.args.out.now.items c.attempt_execute.new.out.items c.args.caller
-    (query_attempted c.args.trailed c.args.how c.args.names.now c.args.caller c.args.rest (listed c.args.prepared.now) (query_tree x))) (sym c.in-Execute.is)
-    (subst (λ (n : List ℕ). IsStatement c.args.rest (ended c.attempt_execute.result) c.args.stores.now c.attempt_execute.new.stores c.args.out.now.items c.attempt_execute.new.out.items c.args.caller
-    (λ h. execute_attempted c.args.trailed c.args.how c.args.names.now c.args.caller c.args.rest (executed h c.args.caller.session c.args.rest (listed c.args.prepared.now) n (trees c.in-Execute.arguments)) h)) c.as_bytes-name.ensures c.attempt_execute.ensures.is)
+    subst (λ (x : Query). IsStatement c.args.rest (ended c.attempt_execute.result) c.args.stores.now c.attempt_execute.new.stores c.args.out.now.items c.attempt_execute.new.out.items c.args.attempt.now.caller
+    (query_attempted c.args.trailed c.args.how c.args.attempt.now.names.now c.args.attempt.now.caller c.args.rest (listed c.args.prepared.now) (query_tree x))) (sym c.in-Execute.is)
+    (subst (λ (n : List ℕ). IsStatement c.args.rest (ended c.attempt_execute.result) c.args.stores.now c.attempt_execute.new.stores c.args.out.now.items c.attempt_execute.new.out.items c.args.attempt.now.caller
+    (λ h. execute_attempted c.args.trailed c.args.how c.args.attempt.now.names.now c.args.attempt.now.caller c.args.rest (executed h c.args.attempt.now.caller.session c.args.rest (listed c.args.prepared.now) n (trees c.in-Execute.arguments)) h)) c.as_bytes-name.ensures c.attempt_execute.ensures.is)
 
 pub returns-in-Execute-clause-tally : goal.returns-in-Execute-clause-tally
 returns-in-Execute-clause-tally c h stands at go =
-    subst (λ (x : Query). Grows c.attempt_execute.result c.args.tally.now c.attempt_execute.new.tally (query_given c.args.how c.args.names.now c.args.caller c.args.rest (listed c.args.prepared.now) (query_tree x) h)) (sym c.in-Execute.is)
+    subst (λ (x : Query). Grows c.attempt_execute.result c.args.tally.now c.attempt_execute.new.tally (query_given c.args.how c.args.attempt.now.names.now c.args.attempt.now.caller c.args.rest (listed c.args.prepared.now) (query_tree x) h)) (sym c.in-Execute.is)
     (subst (λ (n : List ℕ). Grows c.attempt_execute.result c.args.tally.now c.attempt_execute.new.tally
-    (execution_given c.args.how c.args.names.now c.args.caller c.args.rest (executed h c.args.caller.session c.args.rest (listed c.args.prepared.now) n (trees c.in-Execute.arguments)) h)) c.as_bytes-name.ensures (c.attempt_execute.ensures.tally h stands at go))
+    (execution_given c.args.how c.args.attempt.now.names.now c.args.attempt.now.caller c.args.rest (executed h c.args.attempt.now.caller.session c.args.rest (listed c.args.prepared.now) n (trees c.in-Execute.arguments)) h)) c.as_bytes-name.ensures (c.attempt_execute.ensures.tally h stands at go))
 
 pub returns-in-Execute-clause-kept : goal.returns-in-Execute-clause-kept
 returns-in-Execute-clause-kept c =
@@ -64,13 +64,13 @@ returns-in-Execute-clause-kept c =
 
 pub returns-in-ExplainSelect-clause-is : goal.returns-in-ExplainSelect-clause-is
 returns-in-ExplainSelect-clause-is c =
-    subst (λ (x : Query). IsStatement c.args.rest (ended c.attempt_explain.result) c.args.stores.now c.attempt_explain.new.stores c.args.out.now.items c.attempt_explain.new.out.items c.args.caller
-    (query_attempted c.args.trailed c.args.how c.args.names.now c.args.caller c.args.rest (listed c.args.prepared.now) (query_tree x))) (sym c.in-ExplainSelect.is)
+    subst (λ (x : Query). IsStatement c.args.rest (ended c.attempt_explain.result) c.args.stores.now c.attempt_explain.new.stores c.args.out.now.items c.attempt_explain.new.out.items c.args.attempt.now.caller
+    (query_attempted c.args.trailed c.args.how c.args.attempt.now.names.now c.args.attempt.now.caller c.args.rest (listed c.args.prepared.now) (query_tree x))) (sym c.in-ExplainSelect.is)
     (c.attempt_explain.ensures c.args.rest)
 
 pub returns-in-ExplainSelect-clause-tally : goal.returns-in-ExplainSelect-clause-tally
 returns-in-ExplainSelect-clause-tally c h stands at go =
-    subst (λ (x : Query). Grows c.attempt_explain.result c.args.tally.now c.args.tally.now (query_given c.args.how c.args.names.now c.args.caller c.args.rest (listed c.args.prepared.now) (query_tree x) h)) (sym c.in-ExplainSelect.is)
+    subst (λ (x : Query). Grows c.attempt_explain.result c.args.tally.now c.args.tally.now (query_given c.args.how c.args.attempt.now.names.now c.args.attempt.now.caller c.args.rest (listed c.args.prepared.now) (query_tree x) h)) (sym c.in-ExplainSelect.is)
     (stays_same c.attempt_explain.result c.args.tally.now)
 
 pub returns-in-ExplainSelect-clause-kept : goal.returns-in-ExplainSelect-clause-kept
@@ -79,14 +79,14 @@ returns-in-ExplainSelect-clause-kept c =
 
 pub returns-in-ExplainExecute-clause-is : goal.returns-in-ExplainExecute-clause-is
 returns-in-ExplainExecute-clause-is c =
-    subst (λ (x : Query). IsStatement c.args.rest (ended c.attempt_explain_execute.result) c.args.stores.now c.attempt_explain_execute.new.stores c.args.out.now.items c.attempt_explain_execute.new.out.items c.args.caller
-    (query_attempted c.args.trailed c.args.how c.args.names.now c.args.caller c.args.rest (listed c.args.prepared.now) (query_tree x))) (sym c.in-ExplainExecute.is)
-    (subst (λ (n : List ℕ). IsStatement c.args.rest (ended c.attempt_explain_execute.result) c.args.stores.now c.attempt_explain_execute.new.stores c.args.out.now.items c.attempt_explain_execute.new.out.items c.args.caller
-    (explain_execute_attempted c.args.how c.args.names.now c.args.caller (listed c.args.prepared.now) c.in-ExplainExecute.analyze n (trees c.in-ExplainExecute.arguments))) c.as_bytes-name-in-ExplainExecute.ensures (c.attempt_explain_execute.ensures c.args.rest))
+    subst (λ (x : Query). IsStatement c.args.rest (ended c.attempt_explain_execute.result) c.args.stores.now c.attempt_explain_execute.new.stores c.args.out.now.items c.attempt_explain_execute.new.out.items c.args.attempt.now.caller
+    (query_attempted c.args.trailed c.args.how c.args.attempt.now.names.now c.args.attempt.now.caller c.args.rest (listed c.args.prepared.now) (query_tree x))) (sym c.in-ExplainExecute.is)
+    (subst (λ (n : List ℕ). IsStatement c.args.rest (ended c.attempt_explain_execute.result) c.args.stores.now c.attempt_explain_execute.new.stores c.args.out.now.items c.attempt_explain_execute.new.out.items c.args.attempt.now.caller
+    (explain_execute_attempted c.args.how c.args.attempt.now.names.now c.args.attempt.now.caller (listed c.args.prepared.now) c.in-ExplainExecute.analyze n (trees c.in-ExplainExecute.arguments))) c.as_bytes-name-in-ExplainExecute.ensures (c.attempt_explain_execute.ensures c.args.rest))
 
 pub returns-in-ExplainExecute-clause-tally : goal.returns-in-ExplainExecute-clause-tally
 returns-in-ExplainExecute-clause-tally c h stands at go =
-    subst (λ (x : Query). Grows c.attempt_explain_execute.result c.args.tally.now c.args.tally.now (query_given c.args.how c.args.names.now c.args.caller c.args.rest (listed c.args.prepared.now) (query_tree x) h)) (sym c.in-ExplainExecute.is)
+    subst (λ (x : Query). Grows c.attempt_explain_execute.result c.args.tally.now c.args.tally.now (query_given c.args.how c.args.attempt.now.names.now c.args.attempt.now.caller c.args.rest (listed c.args.prepared.now) (query_tree x) h)) (sym c.in-ExplainExecute.is)
     (stays_same c.attempt_explain_execute.result c.args.tally.now)
 
 pub returns-in-ExplainExecute-clause-kept : goal.returns-in-ExplainExecute-clause-kept

@@ -7,5 +7,5 @@ pub table-requires : goal.table-requires
 table-requires c =
     let h = c.requires.sound.0 in
     let stands = c.requires.sound.1 in
-    found_below c.args.stores.now h c.args.caller.session c.in-Some.table.number c.args.name.now stands
+    found_below c.args.stores.now h c.args.attempt.now.caller.session c.in-Some.table.number c.args.name.now stands
     (sym (c.resolve.ensures h stands.all.txs stands.all.catalog) ∙ ap (option_map (λ (t : TableNo). t.number)) c.in-Some.is)

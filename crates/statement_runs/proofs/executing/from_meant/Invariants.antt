@@ -9,5 +9,5 @@ abbrev pub invariant-loop-item : goal.invariant-loop-item
 invariant-loop-item l = record {
   place : l.place ≡ l.item-index;
   so_far : (h : History) → Stands l.stores h
-      → l.items.items ++ items_meant h l.caller.session l.place (map joined_tree (drop l.item-index l.from)) ≡ items_meant h l.caller.session 0 (map joined_tree l.from);
+      → l.items.items ++ items_meant h l.attempt.caller.session l.place (map joined_tree (drop l.item-index l.from)) ≡ items_meant h l.attempt.caller.session 0 (map joined_tree l.from);
 }

@@ -19,8 +19,8 @@ use Rattle.statement_runs.proofs.prepared_attempts.attempt_execute.Goals as goal
 
 pub returns-in-Ok-clause-is : goal.returns-in-Ok-clause-is
 returns-in-Ok-clause-is c =
-    let k = c.args.caller in
-    let names = c.args.names.now in
+    let k = c.args.attempt.now.caller in
+    let names = c.args.attempt.now.names.now in
     let e = c.in-Ok.execution in
     let told = λ (h : History). executed h k.session c.args.rest (listed c.args.prepared.now) c.args.name.now (trees c.args.arguments.now) in
     same_statement c.args.rest (ended c.attempt_rows.result) c.args.stores.now c.attempt_rows.new.stores k
@@ -34,8 +34,8 @@ returns-in-Ok-clause-is c =
 
 pub returns-in-Ok-clause-tally : goal.returns-in-Ok-clause-tally
 returns-in-Ok-clause-tally c h stands at go =
-    let k = c.args.caller in
-    let names = c.args.names.now in
+    let k = c.args.attempt.now.caller in
+    let names = c.args.attempt.now.names.now in
     let e = c.in-Ok.execution in
     subst (λ (n : Tally). Grows c.attempt_rows.result c.args.tally.now c.attempt_rows.new.tally n)
     (sym (ap (λ (r : Result Execution Fault). execution_given c.args.how names k c.args.rest r h) (c.in-Ok.ensures h stands)))
@@ -45,14 +45,14 @@ returns-in-Ok-clause-tally c h stands at go =
 
 pub returns-in-Err-clause-is : goal.returns-in-Err-clause-is
 returns-in-Err-clause-is c =
-    let k = c.args.caller in
+    let k = c.args.attempt.now.caller in
     let told = λ (h : History). executed h k.session c.args.rest (listed c.args.prepared.now) c.args.name.now (trees c.args.arguments.now) in
-    c.stop_for.ensures.is c.args.rest c.args.out.now.items (λ h. execute_attempted c.args.trailed c.args.how c.args.names.now k c.args.rest (told h) h)
-    (λ h stands fault is. ap (λ (r : Result Execution Fault). execute_attempted c.args.trailed c.args.how c.args.names.now k c.args.rest r h) (told_fault c.in-Err.refusal fault (told h) is (c.in-Err.ensures h stands)))
+    c.stop_for.ensures.is c.args.rest c.args.out.now.items (λ h. execute_attempted c.args.trailed c.args.how c.args.attempt.now.names.now k c.args.rest (told h) h)
+    (λ h stands fault is. ap (λ (r : Result Execution Fault). execute_attempted c.args.trailed c.args.how c.args.attempt.now.names.now k c.args.rest r h) (told_fault c.in-Err.refusal fault (told h) is (c.in-Err.ensures h stands)))
 
 pub returns-in-Err-clause-tally : goal.returns-in-Err-clause-tally
 returns-in-Err-clause-tally c h stands at go =
-    let k = c.args.caller in
+    let k = c.args.attempt.now.caller in
     let told = executed h k.session c.args.rest (listed c.args.prepared.now) c.args.name.now (trees c.args.arguments.now) in
-    c.stop_for.ensures.tally c.args.tally.now (execution_given c.args.how c.args.names.now k c.args.rest told h)
-    (λ fault is. refused_gives c.args.how c.args.names.now k c.args.rest told fault h c.args.tally.now (told_fault c.in-Err.refusal fault told is (c.in-Err.ensures h stands)))
+    c.stop_for.ensures.tally c.args.tally.now (execution_given c.args.how c.args.attempt.now.names.now k c.args.rest told h)
+    (λ fault is. refused_gives c.args.how c.args.attempt.now.names.now k c.args.rest told fault h c.args.tally.now (told_fault c.in-Err.refusal fault told is (c.in-Err.ensures h stands)))

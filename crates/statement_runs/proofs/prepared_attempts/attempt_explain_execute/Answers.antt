@@ -15,8 +15,8 @@ use Rattle.statement_runs.proofs.prepared_attempts.attempt_explain_execute.Goals
 
 pub returns-in-Ok : goal.returns-in-Ok
 returns-in-Ok c left =
-    let k = c.args.caller in
-    let names = c.args.names.now in
+    let k = c.args.attempt.now.caller in
+    let names = c.args.attempt.now.names.now in
     let e = c.in-Ok.execution in
     let told = λ (h : History). explained_by h k.session (listed c.args.prepared.now) c.args.name.now (trees c.args.arguments.now) in
     same_statement left (ended c.plan_execution.result) c.args.stores.now c.plan_execution.new.stores k
@@ -30,7 +30,7 @@ returns-in-Ok c left =
 
 pub returns-in-Err : goal.returns-in-Err
 returns-in-Err c left =
-    let k = c.args.caller in
+    let k = c.args.attempt.now.caller in
     let told = λ (h : History). explained_by h k.session (listed c.args.prepared.now) c.args.name.now (trees c.args.arguments.now) in
-    c.stop_for.ensures.is left c.args.out.now.items (λ h. execution_explained c.args.how c.args.names.now k c.args.analyze (told h) h)
-    (λ h stands fault is. ap (λ (r : Result Execution Fault). execution_explained c.args.how c.args.names.now k c.args.analyze r h) (told_fault c.in-Err.refusal fault (told h) is (c.in-Err.ensures h stands)))
+    c.stop_for.ensures.is left c.args.out.now.items (λ h. execution_explained c.args.how c.args.attempt.now.names.now k c.args.analyze (told h) h)
+    (λ h stands fault is. ap (λ (r : Result Execution Fault). execution_explained c.args.how c.args.attempt.now.names.now k c.args.analyze r h) (told_fault c.in-Err.refusal fault (told h) is (c.in-Err.ensures h stands)))

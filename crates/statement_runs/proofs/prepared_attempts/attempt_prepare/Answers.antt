@@ -13,14 +13,14 @@ list-requires c = may_go_on _ _ _ _ _ _ c.requires c.in_ok-hold_if_repeatable.en
 pub returns-in_err-hold_if_repeatable-clause-is : goal.returns-in_err-hold_if_repeatable-clause-is
 returns-in_err-hold_if_repeatable-clause-is c =
     handed_on c.from_residual.ensures.1
-    (stops (held_at c.args.caller.level c.args.caller.session c.args.caller.cmd) (λ (u : Unit {0}). taken (prepared (listed c.args.prepared.now) c.args.name.now c.args.types.now (row_tree c.args.statement.now.value))) c.in_err-hold_if_repeatable.ensures.step)
+    (stops (held_at c.args.attempt.now.caller.level c.args.attempt.now.caller.session c.args.attempt.now.caller.cmd) (λ (u : Unit {0}). taken (prepared (listed c.args.prepared.now) c.args.name.now c.args.types.now (row_tree c.args.statement.now.value))) c.in_err-hold_if_repeatable.ensures.step)
 
 pub returns-in_err-hold_if_repeatable-clause-kept : goal.returns-in_err-hold_if_repeatable-clause-kept
 returns-in_err-hold_if_repeatable-clause-kept c = kept_out _ _ (listed c.args.prepared.now) _ c.from_residual.ensures.1
 
 pub returns-clause-is : goal.returns-clause-is
 returns-clause-is c =
-    goes (held_at c.args.caller.level c.args.caller.session c.args.caller.cmd) (λ (u : Unit {0}). taken (prepared (listed c.args.prepared.now) c.args.name.now c.args.types.now (row_tree c.args.statement.now.value))) c.in_ok-hold_if_repeatable.ensures.step
+    goes (held_at c.args.attempt.now.caller.level c.args.attempt.now.caller.session c.args.attempt.now.caller.cmd) (λ (u : Unit {0}). taken (prepared (listed c.args.prepared.now) c.args.name.now c.args.types.now (row_tree c.args.statement.now.value))) c.in_ok-hold_if_repeatable.ensures.step
     (c.list.ensures.is (listed c.prepare-done.new.self) (prepared (listed c.args.prepared.now) c.args.name.now c.args.types.now (row_tree c.args.statement.now.value)) c.prepare-done.ensures.answer)
 
 pub returns-clause-kept : goal.returns-clause-kept

@@ -8,26 +8,26 @@ use Rattle.statement_runs.proofs.prepared_attempts.plan_execution.Goals as goal
 
 pub returns-in-Select : goal.returns-in-Select
 returns-in-Select c left =
-    subst (λ (x : RowStatement). IsStatement left (ended c.attempt_explain.result) c.args.stores.now c.attempt_explain.new.stores c.args.out.now.items c.attempt_explain.new.out.items c.args.caller
-    (plan_of_execution c.args.how c.args.names.now c.args.params.now c.args.caller c.args.analyze (row_tree x))) (sym c.in-Select.is) (c.attempt_explain.ensures left)
+    subst (λ (x : RowStatement). IsStatement left (ended c.attempt_explain.result) c.args.stores.now c.attempt_explain.new.stores c.args.out.now.items c.attempt_explain.new.out.items c.args.attempt.now.caller
+    (plan_of_execution c.args.how c.args.attempt.now.names.now c.args.params.now c.args.attempt.now.caller c.args.analyze (row_tree x))) (sym c.in-Select.is) (c.attempt_explain.ensures left)
 
 pub returns-in-Insert : goal.returns-in-Insert
 returns-in-Insert c left =
     let s = c.args.stores.now in
     let out = c.args.out.now.items in
-    subst (λ (x : RowStatement). IsStatement left (ended c.omit.result) s s out out c.args.caller (plan_of_execution c.args.how c.args.names.now c.args.params.now c.args.caller c.args.analyze (row_tree x))) (sym c.in-Insert.is)
-    (subst (λ (o : List ℕ). IsStatement left (ended c.omit.result) s s o o c.args.caller (omitted (codes "INSERT"))) c.deref.ensures.value (c.omit.ensures left))
+    subst (λ (x : RowStatement). IsStatement left (ended c.omit.result) s s out out c.args.attempt.now.caller (plan_of_execution c.args.how c.args.attempt.now.names.now c.args.params.now c.args.attempt.now.caller c.args.analyze (row_tree x))) (sym c.in-Insert.is)
+    (subst (λ (o : List ℕ). IsStatement left (ended c.omit.result) s s o o c.args.attempt.now.caller (omitted (codes "INSERT"))) c.deref.ensures.value (c.omit.ensures left))
 
 pub returns-in-Update : goal.returns-in-Update
 returns-in-Update c left =
     let s = c.args.stores.now in
     let out = c.args.out.now.items in
-    subst (λ (x : RowStatement). IsStatement left (ended c.omit-in-Update.result) s s out out c.args.caller (plan_of_execution c.args.how c.args.names.now c.args.params.now c.args.caller c.args.analyze (row_tree x))) (sym c.in-Update.is)
-    (subst (λ (o : List ℕ). IsStatement left (ended c.omit-in-Update.result) s s o o c.args.caller (omitted (codes "UPDATE"))) c.deref-in-Update.ensures.value (c.omit-in-Update.ensures left))
+    subst (λ (x : RowStatement). IsStatement left (ended c.omit-in-Update.result) s s out out c.args.attempt.now.caller (plan_of_execution c.args.how c.args.attempt.now.names.now c.args.params.now c.args.attempt.now.caller c.args.analyze (row_tree x))) (sym c.in-Update.is)
+    (subst (λ (o : List ℕ). IsStatement left (ended c.omit-in-Update.result) s s o o c.args.attempt.now.caller (omitted (codes "UPDATE"))) c.deref-in-Update.ensures.value (c.omit-in-Update.ensures left))
 
 pub returns-in-Delete : goal.returns-in-Delete
 returns-in-Delete c left =
     let s = c.args.stores.now in
     let out = c.args.out.now.items in
-    subst (λ (x : RowStatement). IsStatement left (ended c.omit-in-Delete.result) s s out out c.args.caller (plan_of_execution c.args.how c.args.names.now c.args.params.now c.args.caller c.args.analyze (row_tree x))) (sym c.in-Delete.is)
-    (subst (λ (o : List ℕ). IsStatement left (ended c.omit-in-Delete.result) s s o o c.args.caller (omitted (codes "DELETE"))) c.deref-in-Delete.ensures.value (c.omit-in-Delete.ensures left))
+    subst (λ (x : RowStatement). IsStatement left (ended c.omit-in-Delete.result) s s out out c.args.attempt.now.caller (plan_of_execution c.args.how c.args.attempt.now.names.now c.args.params.now c.args.attempt.now.caller c.args.analyze (row_tree x))) (sym c.in-Delete.is)
+    (subst (λ (o : List ℕ). IsStatement left (ended c.omit-in-Delete.result) s s o o c.args.attempt.now.caller (omitted (codes "DELETE"))) c.deref-in-Delete.ensures.value (c.omit-in-Delete.ensures left))

@@ -6,9 +6,9 @@ use Rattle.statement_runs.proofs.row_attempts.attempt_update.Goals as goal
 pub returns-clause-is : goal.returns-clause-is
 returns-clause-is c =
     let s = c.args.statement.now in
-    c.finish_changes.ensures.is c.args.rest c.args.stores.now c.args.caller (updated c.args.how c.args.names.now c.args.params.now c.args.caller c.args.rest s.table (map setting s.assignments) (maybe_tree s.condition)) c.update-done.ensures
+    c.finish_changes.ensures.is c.args.rest c.args.stores.now c.args.attempt.now.caller (updated c.args.how c.args.attempt.now.names.now c.args.params.now c.args.attempt.now.caller c.args.rest s.table (map setting s.assignments) (maybe_tree s.condition)) c.update-done.ensures
 
 pub returns-clause-tally : goal.returns-clause-tally
 returns-clause-tally c =
     let s = c.args.statement.now in
-    c.finish_changes.ensures.tally c.args.rest c.args.stores.now c.args.caller (updated c.args.how c.args.names.now c.args.params.now c.args.caller c.args.rest s.table (map setting s.assignments) (maybe_tree s.condition)) c.update-done.ensures
+    c.finish_changes.ensures.tally c.args.rest c.args.stores.now c.args.attempt.now.caller (updated c.args.how c.args.attempt.now.names.now c.args.params.now c.args.attempt.now.caller c.args.rest s.table (map setting s.assignments) (maybe_tree s.condition)) c.update-done.ensures

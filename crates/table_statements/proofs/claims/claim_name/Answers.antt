@@ -18,25 +18,25 @@ use Rattle.table_statements.proofs.claims.claim_name.Goals as goal
 use Rattle.table_statements.proofs.claims.claim_name.Goals.{In_ok-check_name}
 
 -- no table of the name is there
-tests : (c : In_ok-check_name) → IsStep (λ (u : Unit {0}). u) (Ok tt) c.args.stores.now c.args.stores.now c.args.caller c.args.caller.cmd (name_tested c.args.caller.session c.args.name.now)
+tests : (c : In_ok-check_name) → IsStep (λ (u : Unit {0}). u) (Ok tt) c.args.stores.now c.args.stores.now c.args.attempt.now.caller c.args.attempt.now.caller.cmd (name_tested c.args.attempt.now.caller.session c.args.name.now)
 tests c =
-    answered_done (λ (u : Unit {0}). u) tt c.args.stores.now c.args.caller (λ h. unless_faults (name_faults h c.args.caller.session c.args.name.now) (Ok tt)) c.requires.may
-    (λ h stands. ap (λ fs. unless_faults fs (Ok tt)) (none_first (name_faults h c.args.caller.session c.args.name.now) tt (c.in_ok-check_name.ensures h stands.all.txs stands.all.catalog)))
+    answered_done (λ (u : Unit {0}). u) tt c.args.stores.now c.args.attempt.now.caller (λ h. unless_faults (name_faults h c.args.attempt.now.caller.session c.args.name.now) (Ok tt)) c.requires.may
+    (λ h stands. ap (λ fs. unless_faults fs (Ok tt)) (none_first (name_faults h c.args.attempt.now.caller.session c.args.name.now) tt (c.in_ok-check_name.ensures h stands.all.txs stands.all.catalog)))
 
 pub returns-clause-step : goal.returns-clause-step
 returns-clause-step c =
-    goes (name_tested c.args.caller.session c.args.name.now) (λ u. name_waited c.args.names.now c.args.caller.session c.args.name.now) (tests (goal.at.returns-clause-step c).In_ok-check_name) c.wait_for_name.ensures.step
+    goes (name_tested c.args.attempt.now.caller.session c.args.name.now) (λ u. name_waited c.args.attempt.now.names.now c.args.attempt.now.caller.session c.args.name.now) (tests (goal.at.returns-clause-step c).In_ok-check_name) c.wait_for_name.ensures.step
 
 pub returns-in_err-check_name-clause-step : goal.returns-in_err-check_name-clause-step
 returns-in_err-check_name-clause-step c =
-    let s = c.args.caller.session in
-    handed_on c.from_residual.ensures.1 (stops (name_tested s c.args.name.now) (λ u. name_waited c.args.names.now s c.args.name.now)
-    (answered_refused (λ (u : Unit {0}). u) c.in_err-check_name.field-0.0 c.args.stores.now c.args.caller c.args.caller.cmd (λ h. unless_faults (name_faults h s c.args.name.now) (Ok tt)) c.requires.may
+    let s = c.args.attempt.now.caller.session in
+    handed_on c.from_residual.ensures.1 (stops (name_tested s c.args.name.now) (λ u. name_waited c.args.attempt.now.names.now s c.args.name.now)
+    (answered_refused (λ (u : Unit {0}). u) c.in_err-check_name.field-0.0 c.args.stores.now c.args.attempt.now.caller c.args.attempt.now.caller.cmd (λ h. unless_faults (name_faults h s c.args.name.now) (Ok tt)) c.requires.may
     (λ h stands. stops_first (λ (u : Unit {0}). u) c.in_err-check_name.field-0.0 (name_faults h s c.args.name.now) (Ok tt) tt (c.in_err-check_name.ensures h stands.all.txs stands.all.catalog))))
 
 pub returns-clause-free : goal.returns-clause-free
 returns-clause-free c =
-    let s = c.args.caller.session in
+    let s = c.args.attempt.now.caller.session in
     let name = c.args.name.now in
     let new = c.wait_for_name.new.stores in
     if_done c.wait_for_name.result (λ u. (h : History) → TableStands new.txs h → CatalogueStands new.catalog h → taken_by h s name ≡ None) (λ u. (h : History) → TableStands new.txs h → CatalogueStands new.catalog h → IsFree h s name)

@@ -17,20 +17,20 @@ pub drop_all-requires-clause-may : goal.drop_all-requires-clause-may
 drop_all-requires-clause-may c = may_go_on _ _ _ _ _ _ (may_go_on _ _ _ _ _ _ c.requires.may c.in_ok-hold_if_repeatable.ensures.step) c.in_ok-found.ensures.step
 
 pub drop_all-requires-clause-drops : goal.drop_all-requires-clause-drops
-drop_all-requires-clause-drops c = subst (λ (ts : List TableNo). All (MayDropTable c.lock_all_to_drop.new.stores c.args.caller.session) ts) (sym c.deref.ensures.value) c.in_ok-found.ensures.drop
+drop_all-requires-clause-drops c = subst (λ (ts : List TableNo). All (MayDropTable c.lock_all_to_drop.new.stores c.args.attempt.now.caller.session) ts) (sym c.deref.ensures.value) c.in_ok-found.ensures.drop
 
 pub returns-in_err-found : goal.returns-in_err-found
 returns-in_err-found c =
-    let names = c.args.names.now in
-    let caller = c.args.caller in
+    let names = c.args.attempt.now.names.now in
+    let caller = c.args.attempt.now.caller in
     handed_on c.from_residual-in_err-found.ensures.1
     (goes (held_at caller.level caller.session caller.cmd) (λ u. locked_and_dropped names caller c.args.if_there c.args.tables.now) c.in_ok-hold_if_repeatable.ensures.step
     (stops (found_all names caller.session c.args.if_there c.args.tables.now) (dropped_all caller) c.in_err-found.ensures.step))
 
 pub returns : goal.returns
 returns c =
-    let names = c.args.names.now in
-    let caller = c.args.caller in
+    let names = c.args.attempt.now.names.now in
+    let caller = c.args.attempt.now.caller in
     goes (held_at caller.level caller.session caller.cmd) (λ u. locked_and_dropped names caller c.args.if_there c.args.tables.now) c.in_ok-hold_if_repeatable.ensures.step
     (goes (found_all names caller.session c.args.if_there c.args.tables.now) (dropped_all caller) c.in_ok-found.ensures.step
     (moved (λ (ts : List TableNo). dropped_all caller (map (λ t. t.number) ts)) _ _ c.deref.ensures.value c.drop_all.ensures))

@@ -3,7 +3,7 @@ use Rattle.table_statements.proofs.Finding.{IsLeft}
 use Rattle.table_statements.proofs.named.lock_all.Given as goal
 
 abbrev pub invariant-loop-table : goal.invariant-loop-table
-invariant-loop-table l = IsLeft l.fn.stores l.stores l.fn.caller l.fn.names l.fn.mode l.fn.tables l.left l.whole.items
+invariant-loop-table l = IsLeft l.fn.stores l.stores l.fn.attempt.caller l.fn.attempt.names.now l.fn.mode l.fn.tables l.left l.whole.items
 
 abbrev pub decreases-loop-table : goal.decreases-loop-table
 decreases-loop-table l = length l.left

@@ -9,10 +9,10 @@ use Rattle.table_statements.proofs.partitions.check_parent.Goals as goal
 
 pub returns : goal.returns
 returns c =
-    answered_done (λ (u : Unit {0}). u) tt c.args.stores.now c.args.caller (λ h. next_answer (level_at h c.args.parent.number) level_there) c.requires.may
+    answered_done (λ (u : Unit {0}). u) tt c.args.stores.now c.args.attempt.now.caller (λ h. next_answer (level_at h c.args.parent.number) level_there) c.requires.may
     (λ h stands. ap (λ a. next_answer a level_there) (c.in_ok-parent_level.ensures h stands.all.catalog))
 
 pub returns-in_err-parent_level : goal.returns-in_err-parent_level
 returns-in_err-parent_level c =
-    handed_on c.from_residual.ensures.1 (answered_refused (λ (u : Unit {0}). u) c.in_err-parent_level.field-0.0 c.args.stores.now c.args.caller c.args.caller.cmd (λ h. next_answer (level_at h c.args.parent.number) level_there) c.requires.may
+    handed_on c.from_residual.ensures.1 (answered_refused (λ (u : Unit {0}). u) c.in_err-parent_level.field-0.0 c.args.stores.now c.args.attempt.now.caller c.args.attempt.now.caller.cmd (λ h. next_answer (level_at h c.args.parent.number) level_there) c.requires.may
     (λ h stands. stops_at (λ (u : Unit {0}). u) c.in_err-parent_level.field-0.0 (level_at h c.args.parent.number) level_there (fault_answer c.in_err-parent_level.field-0.0 (level_at h c.args.parent.number) (c.in_err-parent_level.ensures h stands.all.catalog))))

@@ -41,9 +41,9 @@ check_parent-requires-clause-may c = may_go_on _ _ _ _ _ _ (may_go_on _ _ _ _ _ 
 
 pub check_parent-requires-clause-known : goal.check_parent-requires-clause-known
 check_parent-requires-clause-known c =
-    (still_named c.lock_named.new.stores c.lock_default.new.stores c.args.caller.session c.in_ok-parent.parent.number c.lock_default.ensures.rest c.in_ok-lock_default.ensures.step.keeps.locks
-    (named_locked c.args.names.now c.hold_if_repeatable.new.stores c.lock_named.new.stores c.args.caller c.args.parent.now c.in_ok-parent.parent (may_go_on _ _ _ _ _ _ c.requires.may c.in_ok-hold_if_repeatable.ensures.step) c.lock_named.ensures.rest c.in_ok-parent.ensures.known
-    (moved (named c.args.names.now c.args.caller.session AccessExclusive) _ _ c.as_bytes.ensures c.in_ok-parent.ensures.step))).made
+    (still_named c.lock_named.new.stores c.lock_default.new.stores c.args.attempt.now.caller.session c.in_ok-parent.parent.number c.lock_default.ensures.rest c.in_ok-lock_default.ensures.step.keeps.locks
+    (named_locked c.args.attempt.now.names.now c.hold_if_repeatable.new.stores c.lock_named.new.stores c.args.attempt.now.caller c.args.parent.now c.in_ok-parent.parent (may_go_on _ _ _ _ _ _ c.requires.may c.in_ok-hold_if_repeatable.ensures.step) c.lock_named.ensures.rest c.in_ok-parent.ensures.known
+    (moved (named c.args.attempt.now.names.now c.args.attempt.now.caller.session AccessExclusive) _ _ c.as_bytes.ensures c.in_ok-parent.ensures.step))).made
 
 pub claim_name-requires : goal.claim_name-requires
 claim_name-requires c = record { may = may_go_on _ _ _ _ _ _ (may_go_on _ _ _ _ _ _ (may_go_on _ _ _ _ _ _ c.requires.may c.in_ok-hold_if_repeatable.ensures.step) c.in_ok-parent.ensures.step) c.in_ok-lock_default.ensures.step }
@@ -53,24 +53,24 @@ place_found-requires-clause-may c = may_go_on _ _ _ _ _ _ (may_go_on _ _ _ _ _ _
 
 pub place_found-requires-clause-known : goal.place_found-requires-clause-known
 place_found-requires-clause-known c =
-    (still_named c.lock_default.new.stores c.claim_name.new.stores c.args.caller.session c.in_ok-parent.parent.number c.claim_name.ensures.rest c.in_ok-claim_name.ensures.step.keeps.locks
-    (still_named c.lock_named.new.stores c.lock_default.new.stores c.args.caller.session c.in_ok-parent.parent.number c.lock_default.ensures.rest c.in_ok-lock_default.ensures.step.keeps.locks
-    (named_locked c.args.names.now c.hold_if_repeatable.new.stores c.lock_named.new.stores c.args.caller c.args.parent.now c.in_ok-parent.parent (may_go_on _ _ _ _ _ _ c.requires.may c.in_ok-hold_if_repeatable.ensures.step) c.lock_named.ensures.rest c.in_ok-parent.ensures.known
-    (moved (named c.args.names.now c.args.caller.session AccessExclusive) _ _ c.as_bytes.ensures c.in_ok-parent.ensures.step)))).made
+    (still_named c.lock_default.new.stores c.claim_name.new.stores c.args.attempt.now.caller.session c.in_ok-parent.parent.number c.claim_name.ensures.rest c.in_ok-claim_name.ensures.step.keeps.locks
+    (still_named c.lock_named.new.stores c.lock_default.new.stores c.args.attempt.now.caller.session c.in_ok-parent.parent.number c.lock_default.ensures.rest c.in_ok-lock_default.ensures.step.keeps.locks
+    (named_locked c.args.attempt.now.names.now c.hold_if_repeatable.new.stores c.lock_named.new.stores c.args.attempt.now.caller c.args.parent.now c.in_ok-parent.parent (may_go_on _ _ _ _ _ _ c.requires.may c.in_ok-hold_if_repeatable.ensures.step) c.lock_named.ensures.rest c.in_ok-parent.ensures.known
+    (moved (named c.args.attempt.now.names.now c.args.attempt.now.caller.session AccessExclusive) _ _ c.as_bytes.ensures c.in_ok-parent.ensures.step)))).made
 
 pub scan_default-requires-clause-may : goal.scan_default-requires-clause-may
 scan_default-requires-clause-may c = may_go_on _ _ _ _ _ _ (may_go_on _ _ _ _ _ _ (may_go_on _ _ _ _ _ _ (may_go_on _ _ _ _ _ _ c.requires.may c.in_ok-hold_if_repeatable.ensures.step) c.in_ok-parent.ensures.step) c.in_ok-lock_default.ensures.step) c.in_ok-claim_name.ensures.step
 
 pub scan_default-requires-clause-known : goal.scan_default-requires-clause-known
 scan_default-requires-clause-known c =
-    (still_named c.lock_default.new.stores c.claim_name.new.stores c.args.caller.session c.in_ok-parent.parent.number c.claim_name.ensures.rest c.in_ok-claim_name.ensures.step.keeps.locks
-    (still_named c.lock_named.new.stores c.lock_default.new.stores c.args.caller.session c.in_ok-parent.parent.number c.lock_default.ensures.rest c.in_ok-lock_default.ensures.step.keeps.locks
-    (named_locked c.args.names.now c.hold_if_repeatable.new.stores c.lock_named.new.stores c.args.caller c.args.parent.now c.in_ok-parent.parent (may_go_on _ _ _ _ _ _ c.requires.may c.in_ok-hold_if_repeatable.ensures.step) c.lock_named.ensures.rest c.in_ok-parent.ensures.known
-    (moved (named c.args.names.now c.args.caller.session AccessExclusive) _ _ c.as_bytes.ensures c.in_ok-parent.ensures.step)))).made
+    (still_named c.lock_default.new.stores c.claim_name.new.stores c.args.attempt.now.caller.session c.in_ok-parent.parent.number c.claim_name.ensures.rest c.in_ok-claim_name.ensures.step.keeps.locks
+    (still_named c.lock_named.new.stores c.lock_default.new.stores c.args.attempt.now.caller.session c.in_ok-parent.parent.number c.lock_default.ensures.rest c.in_ok-lock_default.ensures.step.keeps.locks
+    (named_locked c.args.attempt.now.names.now c.hold_if_repeatable.new.stores c.lock_named.new.stores c.args.attempt.now.caller c.args.parent.now c.in_ok-parent.parent (may_go_on _ _ _ _ _ _ c.requires.may c.in_ok-hold_if_repeatable.ensures.step) c.lock_named.ensures.rest c.in_ok-parent.ensures.known
+    (moved (named c.args.attempt.now.names.now c.args.attempt.now.caller.session AccessExclusive) _ _ c.as_bytes.ensures c.in_ok-parent.ensures.step)))).made
 
 pub scan_default-requires-clause-takes : goal.scan_default-requires-clause-takes
 scan_default-requires-clause-takes c = λ h catalog.
-    let sound : MayAttempt c.claim_name.new.stores c.args.caller = may_go_on _ _ _ _ _ _ (may_go_on _ _ _ _ _ _ (may_go_on _ _ _ _ _ _ (may_go_on _ _ _ _ _ _ c.requires.may c.in_ok-hold_if_repeatable.ensures.step) c.in_ok-parent.ensures.step) c.in_ok-lock_default.ensures.step) c.in_ok-claim_name.ensures.step in
+    let sound : MayAttempt c.claim_name.new.stores c.args.attempt.now.caller = may_go_on _ _ _ _ _ _ (may_go_on _ _ _ _ _ _ (may_go_on _ _ _ _ _ _ (may_go_on _ _ _ _ _ _ c.requires.may c.in_ok-hold_if_repeatable.ensures.step) c.in_ok-parent.ensures.step) c.in_ok-lock_default.ensures.step) c.in_ok-claim_name.ensures.step in
     let was = sound.sound.1.all in
     subst (λ (tables : List Table). TakesBound (table_at tables c.in_ok-parent.parent.number).shape c.in_ok-place.place.bound) (sym was.catalog.tables ∙ catalog.tables) (c.in_ok-place.ensures.may sound.sound.0 was.txs was.catalog).takes
 
@@ -80,39 +80,39 @@ make_placed-requires-clause-may c =
 
 pub make_placed-requires-clause-parent : goal.make_placed-requires-clause-parent
 make_placed-requires-clause-parent c =
-    still_named c.claim_name.new.stores c.scan_default.new.stores c.args.caller.session c.in_ok-parent.parent.number c.scan_default.ensures.rest c.in_ok-scan_default.ensures.step.keeps.locks
-    (still_named c.lock_default.new.stores c.claim_name.new.stores c.args.caller.session c.in_ok-parent.parent.number c.claim_name.ensures.rest c.in_ok-claim_name.ensures.step.keeps.locks
-    (still_named c.lock_named.new.stores c.lock_default.new.stores c.args.caller.session c.in_ok-parent.parent.number c.lock_default.ensures.rest c.in_ok-lock_default.ensures.step.keeps.locks
-    (named_locked c.args.names.now c.hold_if_repeatable.new.stores c.lock_named.new.stores c.args.caller c.args.parent.now c.in_ok-parent.parent (may_go_on _ _ _ _ _ _ c.requires.may c.in_ok-hold_if_repeatable.ensures.step) c.lock_named.ensures.rest c.in_ok-parent.ensures.known
-    (moved (named c.args.names.now c.args.caller.session AccessExclusive) _ _ c.as_bytes.ensures c.in_ok-parent.ensures.step))))
+    still_named c.claim_name.new.stores c.scan_default.new.stores c.args.attempt.now.caller.session c.in_ok-parent.parent.number c.scan_default.ensures.rest c.in_ok-scan_default.ensures.step.keeps.locks
+    (still_named c.lock_default.new.stores c.claim_name.new.stores c.args.attempt.now.caller.session c.in_ok-parent.parent.number c.claim_name.ensures.rest c.in_ok-claim_name.ensures.step.keeps.locks
+    (still_named c.lock_named.new.stores c.lock_default.new.stores c.args.attempt.now.caller.session c.in_ok-parent.parent.number c.lock_default.ensures.rest c.in_ok-lock_default.ensures.step.keeps.locks
+    (named_locked c.args.attempt.now.names.now c.hold_if_repeatable.new.stores c.lock_named.new.stores c.args.attempt.now.caller c.args.parent.now c.in_ok-parent.parent (may_go_on _ _ _ _ _ _ c.requires.may c.in_ok-hold_if_repeatable.ensures.step) c.lock_named.ensures.rest c.in_ok-parent.ensures.known
+    (moved (named c.args.attempt.now.names.now c.args.attempt.now.caller.session AccessExclusive) _ _ c.as_bytes.ensures c.in_ok-parent.ensures.step))))
 
 pub make_placed-requires-clause-default : goal.make_placed-requires-clause-default
 make_placed-requires-clause-default c =
-    still_default c.claim_name.new.stores c.scan_default.new.stores c.args.caller.session c.in_ok-parent.parent.number c.scan_default.ensures.rest c.in_ok-scan_default.ensures.step.keeps.locks
-    (still_default c.lock_default.new.stores c.claim_name.new.stores c.args.caller.session c.in_ok-parent.parent.number c.claim_name.ensures.rest c.in_ok-claim_name.ensures.step.keeps.locks
+    still_default c.claim_name.new.stores c.scan_default.new.stores c.args.attempt.now.caller.session c.in_ok-parent.parent.number c.scan_default.ensures.rest c.in_ok-scan_default.ensures.step.keeps.locks
+    (still_default c.lock_default.new.stores c.claim_name.new.stores c.args.attempt.now.caller.session c.in_ok-parent.parent.number c.claim_name.ensures.rest c.in_ok-claim_name.ensures.step.keeps.locks
     c.in_ok-lock_default.ensures.locked)
 
 pub make_placed-requires-clause-clean : goal.make_placed-requires-clause-clean
 make_placed-requires-clause-clean c =
-    subst (λ (n : List ℕ). HasDefaultClean c.scan_default.new.stores c.args.caller.session c.in_ok-parent.parent.number c.in_ok-place.place.bound n) (c.as_bytes-text.ensures ∙ sym c.in_ok-copy.ensures) c.in_ok-scan_default.ensures.clean
+    subst (λ (n : List ℕ). HasDefaultClean c.scan_default.new.stores c.args.attempt.now.caller.session c.in_ok-parent.parent.number c.in_ok-place.place.bound n) (c.as_bytes-text.ensures ∙ sym c.in_ok-copy.ensures) c.in_ok-scan_default.ensures.clean
 
 pub make_placed-requires-clause-free : goal.make_placed-requires-clause-free
 make_placed-requires-clause-free c =
-    let s = c.args.caller.session in
+    let s = c.args.attempt.now.caller.session in
     subst (λ (n : List ℕ). (h : History) → TableStands c.scan_default.new.stores.txs h → CatalogueStands c.scan_default.new.stores.catalog h → MayBeMade h s n) (sym c.in_ok-copy.ensures)
     (subst (λ (x : Stores). (h : History) → TableStands x.txs h → CatalogueStands x.catalog h → MayBeMade h s c.args.name.now) (sym c.scan_default.ensures.rest)
     (λ h txs catalog. record { free = subst (λ (n : List ℕ). IsFree h s n) c.as_bytes-text.ensures (c.in_ok-claim_name.ensures.free h txs catalog); few = c.in_ok-place.ensures.few h catalog }))
 
 pub make_placed-requires-clause-placed : goal.make_placed-requires-clause-placed
 make_placed-requires-clause-placed c =
-    subst (λ (x : Stores). (h : History) → TableStands x.txs h → CatalogueStands x.catalog h → MayBePlaced h c.args.caller.session c.in_ok-parent.parent.number c.in_ok-place.place.bound c.in_ok-place.place.level) (sym c.scan_default.ensures.rest) c.in_ok-place.ensures.may
+    subst (λ (x : Stores). (h : History) → TableStands x.txs h → CatalogueStands x.catalog h → MayBePlaced h c.args.attempt.now.caller.session c.in_ok-parent.parent.number c.in_ok-place.place.bound c.in_ok-place.place.level) (sym c.scan_default.ensures.rest) c.in_ok-place.ensures.may
 
 -- ---- the exits, and the end
 
 pub returns-in_err-parent : goal.returns-in_err-parent
 returns-in_err-parent c =
-    let names = c.args.names.now in
-    let caller = c.args.caller in
+    let names = c.args.attempt.now.names.now in
+    let caller = c.args.attempt.now.caller in
     let name = c.args.name.now in
     let b = bound_tree c.args.bound.now in
     let by = c.args.by.now in
@@ -122,8 +122,8 @@ returns-in_err-parent c =
 
 pub returns-in_err-lock_default : goal.returns-in_err-lock_default
 returns-in_err-lock_default c =
-    let names = c.args.names.now in
-    let caller = c.args.caller in
+    let names = c.args.attempt.now.names.now in
+    let caller = c.args.attempt.now.caller in
     let name = c.args.name.now in
     let b = bound_tree c.args.bound.now in
     let by = c.args.by.now in
@@ -135,8 +135,8 @@ returns-in_err-lock_default c =
 
 pub returns-in_err-check_parent : goal.returns-in_err-check_parent
 returns-in_err-check_parent c =
-    let names = c.args.names.now in
-    let caller = c.args.caller in
+    let names = c.args.attempt.now.names.now in
+    let caller = c.args.attempt.now.caller in
     let name = c.args.name.now in
     let b = bound_tree c.args.bound.now in
     let by = c.args.by.now in
@@ -149,8 +149,8 @@ returns-in_err-check_parent c =
 
 pub returns-in_err-claim_name : goal.returns-in_err-claim_name
 returns-in_err-claim_name c =
-    let names = c.args.names.now in
-    let caller = c.args.caller in
+    let names = c.args.attempt.now.names.now in
+    let caller = c.args.attempt.now.caller in
     let name = c.args.name.now in
     let b = bound_tree c.args.bound.now in
     let by = c.args.by.now in
@@ -164,8 +164,8 @@ returns-in_err-claim_name c =
 
 pub returns-in_err-place : goal.returns-in_err-place
 returns-in_err-place c =
-    let names = c.args.names.now in
-    let caller = c.args.caller in
+    let names = c.args.attempt.now.names.now in
+    let caller = c.args.attempt.now.caller in
     let name = c.args.name.now in
     let b = bound_tree c.args.bound.now in
     let by = c.args.by.now in
@@ -180,8 +180,8 @@ returns-in_err-place c =
 
 pub returns-in_err-scan_default : goal.returns-in_err-scan_default
 returns-in_err-scan_default c =
-    let names = c.args.names.now in
-    let caller = c.args.caller in
+    let names = c.args.attempt.now.names.now in
+    let caller = c.args.attempt.now.caller in
     let name = c.args.name.now in
     let b = bound_tree c.args.bound.now in
     let by = c.args.by.now in
@@ -198,8 +198,8 @@ returns-in_err-scan_default c =
 
 pub returns-in_err-copy : goal.returns-in_err-copy
 returns-in_err-copy c =
-    let names = c.args.names.now in
-    let caller = c.args.caller in
+    let names = c.args.attempt.now.names.now in
+    let caller = c.args.attempt.now.caller in
     let name = c.args.name.now in
     let b = bound_tree c.args.bound.now in
     let by = c.args.by.now in
@@ -214,8 +214,8 @@ returns-in_err-copy c =
 
 pub returns : goal.returns
 returns c =
-    let names = c.args.names.now in
-    let caller = c.args.caller in
+    let names = c.args.attempt.now.names.now in
+    let caller = c.args.attempt.now.caller in
     let name = c.args.name.now in
     let b = bound_tree c.args.bound.now in
     let by = c.args.by.now in

@@ -17,14 +17,14 @@ unfolding those
 nothing_judged h s = ap Ok (none_pass 128 (watches h s []) (λ r. refl))
 
 pub default_of-requires-clause-siblings : goal.default_of-requires-clause-siblings
-default_of-requires-clause-siblings c = c.trees_are_together.ensures c.args.stores.now c.requires.may.sound.0 c.args.caller.session c.requires.may.sound.1
+default_of-requires-clause-siblings c = c.trees_are_together.ensures c.args.stores.now c.requires.may.sound.0 c.args.attempt.now.caller.session c.requires.may.sound.1
 
 pub ddl_tree-requires-clause-siblings : goal.ddl_tree-requires-clause-siblings
-ddl_tree-requires-clause-siblings c = c.trees_are_together.ensures c.args.stores.now c.requires.may.sound.0 c.args.caller.session c.requires.may.sound.1
+ddl_tree-requires-clause-siblings c = c.trees_are_together.ensures c.args.stores.now c.requires.may.sound.0 c.args.attempt.now.caller.session c.requires.may.sound.1
 
 pub returns-in-None-clause-answer : goal.returns-in-None-clause-answer
 returns-in-None-clause-answer c = λ h tells.
-    let s = c.args.caller.session in
+    let s = c.args.attempt.now.caller.session in
     let p = c.args.parent.number in
     let none = sym (c.default_of.ensures h tells.txs tells.catalog) ∙ c.in-None.is in
     subst (λ (o : Option TableNo). judged h s (default_scan h s p c.args.bound.now c.args.name.now o) ≡ Ok c.empty.result) (sym none) (nothing_judged h s ∙ ap Ok (sym c.empty.ensures.is))

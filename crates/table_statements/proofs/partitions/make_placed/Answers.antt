@@ -4,7 +4,7 @@ use Rattle.table_statements.proofs.partitions.make_placed.Goals as goal
 
 pub make_partition-requires : goal.make_partition-requires
 make_partition-requires c =
-    may_make c.sessions_have_siblings.ensures c.args.stores.now c.args.caller c.args.parent.number c.args.place.bound c.args.place.level c.in-Some.by c.requires.may c.in-Some.ensures.is c.requires.parent c.requires.placed
+    may_make c.sessions_have_siblings.ensures c.args.stores.now c.args.attempt.now.caller c.args.parent.number c.args.place.bound c.args.place.level c.in-Some.by c.requires.may c.in-Some.ensures.is c.requires.parent c.requires.placed
 
 pub returns : goal.returns
 returns c =
@@ -16,9 +16,9 @@ returns c =
       siblings = c.sessions_have_siblings.ensures;
       none = c.none_breaks.ensures;
     } in
-    partition_step laws c.args.stores.now c.make_partition.new.rows c.make_partition.new.catalog c.args.caller c.args.name c.args.parent.number c.args.place.bound c.args.place.level c.in-Some.by c.in_ok-make_partition.field-0
+    partition_step laws c.args.stores.now c.make_partition.new.rows c.make_partition.new.catalog c.args.attempt.now.caller c.args.name c.args.parent.number c.args.place.bound c.args.place.level c.in-Some.by c.in_ok-make_partition.field-0
     c.requires.may c.requires.parent c.requires.default c.requires.clean c.requires.free c.requires.placed c.in-Some.ensures.is c.in_ok-make_partition.ensures
 
 pub returns-in_err-make_partition : goal.returns-in_err-make_partition
 returns-in_err-make_partition c =
-    handed_on c.from_residual.ensures.1 (partition_not_made c.args.stores.now c.make_partition.new.rows c.make_partition.new.catalog c.args.caller c.args.name c.args.parent.number c.args.place.bound c.args.place.level c.in-Some.by c.in_err-make_partition.field-0.0 c.requires.may c.requires.free c.in_err-make_partition.ensures)
+    handed_on c.from_residual.ensures.1 (partition_not_made c.args.stores.now c.make_partition.new.rows c.make_partition.new.catalog c.args.attempt.now.caller c.args.name c.args.parent.number c.args.place.bound c.args.place.level c.in-Some.by c.in_err-make_partition.field-0.0 c.requires.may c.requires.free c.in_err-make_partition.ensures)
