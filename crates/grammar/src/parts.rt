@@ -1,4 +1,4 @@
-ghost use Rattle.std.specs.Prelude.{length, map};
+ghost use Rattle.std.specs.Prelude.{◌≡◌, ◌∷◌, [], IfOk, length, map};
 ghost use Rattle.grammar.specs.Gives.{Gives};
 ghost use Rattle.grammar.specs.Reading.{begins_in};
 ghost use Rattle.grammar.specs.Repeats as repeats;
@@ -7,6 +7,7 @@ ghost use Rattle.grammar.specs.Steps.{many_step, with_earlier};
 ghost use Rattle.grammar.specs.Words as words;
 
 use crate::{Lexeme, Refused, comes, word};
+use pg_values::NoMemory;
 use std::alloc::Global;
 
 /// What stands in a list, or is a whole text: it is read as its rule says.
@@ -34,6 +35,9 @@ pub trait Part {
     ) -> Result<(Self::Item, &'a [Self::Token]), Refused>
         ensures { Gives (λ x. (tree x.0, x.1.now)) result ((rule text.now).read tokens.now) };
 }
+
+// How many parts a list has room for that has more than one.
+const FEW: usize = 4;
 
 #[tactic(auto, unfolding(crate::specs::Repeats::read_step))]
 fn part_step<'a, P: Part>(
@@ -77,6 +81,16 @@ pub fn more_parts<'a, P: Part>(
     Ok((done, rest))
 }
 
+// A list that begins with this part. It has room for no other, unless more are to come.
+fn list_from<I: Drop>(alloc: Global, first: I, more: bool) -> Result<Vec<I>, NoMemory>
+    ensures { IfOk result (λ parts. parts.items ≡ first ∷ []) }
+{
+    let room = if more { FEW } else { 1 };
+    let mut parts = Vec::with_capacity(alloc, room)?;
+    parts.push(first)?;
+    Ok(parts)
+}
+
 /// Parts with signs between, as commas.
 pub fn separated<'a, P: Part>(
     alloc: Global,
@@ -87,8 +101,7 @@ pub fn separated<'a, P: Part>(
     ensures { Gives (λ x. (map P.tree x.0.items, x.1.now)) result ((words.separated (P.Token.a sign) (P.rule text.now)).read tokens.now) }
 {
     let (first, rest) = P::read(alloc, text, tokens)?;
-    let mut parts = Vec::new(alloc);
-    parts.push(first)?;
+    let parts = list_from(alloc, first, comes(rest, sign))?;
     more_parts::<P>(alloc, text, sign, parts, rest)
 }
 
