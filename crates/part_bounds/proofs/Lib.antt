@@ -1,11 +1,14 @@
 pub mod Counts
+pub mod DefaultLaws
 pub mod FindLaws
-pub mod FirstEdges
 pub mod Halves
 pub mod HashLaws
+pub mod LeadLaws
+pub mod LeadsStand
 pub mod LevelStored
 pub mod ListFind
 pub mod ListingLaws
+pub mod RemainderLaws
 pub mod SearchLaws
 pub mod Shared
 pub mod Stable

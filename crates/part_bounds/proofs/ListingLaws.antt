@@ -20,7 +20,7 @@ use Rattle.bound_forms.specs.declared.point.Edge.TheVariants.{Min, At}
 use Rattle.bound_forms.specs.declared.point.Fill.{Fill}
 use Rattle.bound_forms.specs.declared.point.Fill.TheVariants.{Min as WithMin, Max as WithMax}
 use Rattle.part_bounds.specs.Sorted.{sorted}
-use Rattle.part_bounds.specs.Stored.{Each, marks_from, marks, stored, owners, lies_below, of_lists, IsListLevel}
+use Rattle.part_bounds.specs.Stored.{Each, marks_from, marks, stored, owners, lies_below, of_lists, of_ranges, IsListLevel}
 use Rattle.part_bounds.specs.Listings.{values_of, value_at, mark_at, one_place, places_from, listings_from, listing_less, StandsFor}
 use Rattle.bound_forms.proofs.PointOrder.{point_total}
 use Rattle.part_bounds.proofs.Stable.{map_sorted}
@@ -34,7 +34,7 @@ places_more old out child i values v new at put all =
     let here : places_from child i (drop i values) ≡ one_place child i v ++ rest = rw (drop-cons values i v (slice_get_within values i v at), get_or_from_slice_get values i v v at) refl in
     rw (add-one, put) (append_assoc out (one_place child i v) rest ∙ ap (λ l. out ++ l) (sym here) ∙ all)
 
-past_end : {A : Type 0} (i : ℕ) (xs : List A) → length xs ≤ i → drop i xs ≡ []
+pub past_end : {A : Type 0} (i : ℕ) (xs : List A) → length xs ≤ i → drop i xs ≡ []
 past_end zero [] h = refl
 past_end (suc i) [] h = refl
 past_end zero (x ∷ xs) h = absurd (omega arith)
@@ -102,6 +102,14 @@ stands bounds listings is level =
     ap (map (mark_at bounds)) is
     ∙ map_sorted lies_below (mark_at bounds) (listings_from 0 bounds)
     ∙ ap (sorted lies_below) (map_bounds bounds 0 bounds (each_of (λ b. of_lists b ≡ true) bounds level) (λ j lt. let z : 0 + j ≡ j = omega arith in ap (λ i. get_or bounds i Default) z))
+
+-- a level of ranges lists nothing
+pub none_listed : (n : ℕ) (bounds : List Bound) → Each (λ b. of_ranges b ≡ true) bounds → listings_from n bounds ≡ []
+none_listed n [] level = refl
+none_listed n (Range l u ∷ bounds) level = none_listed (suc n) bounds level.1
+none_listed n (Default ∷ bounds) level = none_listed (suc n) bounds level.1
+none_listed n (Listed values ∷ bounds) level = absurd (true≢false (sym level.0))
+none_listed n (Hash m r ∷ bounds) level = absurd (true≢false (sym level.0))
 
 -- ---- the array by its numbers
 

@@ -51,15 +51,15 @@ less_if true Equal h k = absurd (true≢false k)
 less_if true Greater h k = absurd (true≢false (sym h))
 less_if false r h k = h
 
-pub tells_more : (bounds : List Bound) (q : List Edge) (middle : ℕ) (r : Ordering) (or_equal equal : Bool) → middle < length (stored bounds) → r ≡ point_order (get_or (stored bounds) middle []) q
-    → (if or_equal then is_le r else is_lt r) ≡ true → equal ≡ is_eq r → TellsEqual (stored bounds) q (middle + 1) equal
-tells_more bounds q middle r or_equal equal lt is passed e = record {
-  told = λ t. (omega arith, let back : middle + 1 - 1 ≡ middle = omega arith in rw back (sym is ∙ equal_is r (sym e ∙ t)));
+pub tells_more : (bounds : List Bound) (q : List Edge) (middle : ℕ) (or_equal equal : Bool) → middle < length (stored bounds) → passes or_equal q (get_or (stored bounds) middle []) ≡ true
+    → equal ≡ is_eq (point_order (get_or (stored bounds) middle []) q) → TellsEqual (stored bounds) q (middle + 1) equal
+tells_more bounds q middle or_equal equal lt passed e = record {
+  told = λ t. (omega arith, let back : middle + 1 - 1 ≡ middle = omega arith in rw back (equal_is (point_order (get_or (stored bounds) middle []) q) (sym e ∙ t)));
   other = λ f k d below.
-      let here : is_lt (point_order (get_or (stored bounds) middle []) q) ≡ true = ap is_lt (sym is) ∙ less_if or_equal r passed (sym e ∙ f) in
+      let here : is_lt (point_order (get_or (stored bounds) middle []) q) ≡ true = less_if or_equal (point_order (get_or (stored bounds) middle []) q) passed (sym e ∙ f) in
       (falls_stored bounds false q).falls k middle d (omega (arith, below)) lt (rw (get_or_default (stored bounds) middle d [] lt) here);
 }
 
 -- a point that is tested passes as its order says
-pub passes_is : (or_equal : Bool) (q p : List Edge) (r : Ordering) (t : Bool) → r ≡ point_order p q → t ≡ (if or_equal then is_le r else is_lt r) → passes or_equal q p ≡ t
-passes_is or_equal q p r t is e = sym (e ∙ rw is refl)
+pub passes_is : (or_equal : Bool) (q p : List Edge) (r : Ordering) (t : Bool) → r ≡ point_order p q → t ≡ (if or_equal then is_le r else is_lt r) → t ≡ passes or_equal q p
+passes_is or_equal q p r t is e = e ∙ rw is refl

@@ -105,7 +105,12 @@ pub record TellsEqual (points : List (List Edge)) (q : List Edge) (n : ℕ) (equ
 
 -- ---- ranges in their order
 
--- the lower and the upper point of each range
+-- the lower and the upper point of a range
+abbrev pub points_of_range : Bound → List (List Edge)
+points_of_range (Range lower upper) = lower ∷ (upper ∷ [])
+points_of_range _ = []
+
+-- those of each range
 abbrev pub range_points : List Bound → List (List Edge)
 range_points [] = []
 range_points (Range lower upper ∷ bounds) = lower ∷ (upper ∷ range_points bounds)

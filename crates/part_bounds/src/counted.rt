@@ -1,20 +1,17 @@
 //! Comparisons of points and of listed values that are counted.
 
-ghost use Rattle.std.specs.Prelude.{◌≡◌, ◌≢◌, ◌+◌, ◌≤◌, All, IfSome, Some, length, slice_get};
-ghost use Rattle.std.specs.declared.cmp.Ordering.TheVariants.{Equal};
-ghost use Rattle.pg_values.specs.Order.{order};
-ghost use Rattle.bound_forms.specs.declared.point.Edge.TheVariants.{At};
-ghost use Rattle.bound_forms.specs.declared.point.Fill.{Fill as OneFill};
-ghost use Rattle.bound_forms.specs.Points.{end_of, point_order, EdgeOfKind, PointsFit};
+ghost use Rattle.std.specs.Prelude.{◌≡◌, ◌+◌, All};
+ghost use Rattle.bound_forms.specs.Points.{point_order, EdgeOfKind, PointsFit};
 ghost use Rattle.bound_forms.specs.Listed as listed;
 ghost use Rattle.bound_forms.specs.Listed.{lists, share_value, ValuesFit, ListsFit, ValueOfKind};
 
-use bound_forms::{Edge, Fill, Key, Point, cmp_end, cmp_points, is_same};
+use bound_forms::{Point, cmp_points, is_same};
 use pg_values::{KeyKind, Row, Steps, Value};
 use std::cmp::Ordering;
 use std::sync::ledger::Ledger;
 
 // The order that a comparison of two points gave, counted.
+#[inline(always)]
 pub(crate) fn counted<L: Ledger>(order: Ordering, steps: &mut Steps<L>) -> Ordering
     ensures order { result ≡ order }
     ensures cost { steps.new ≡ steps.old + 1 }
@@ -36,71 +33,6 @@ pub(crate) fn count_points<K: KeyKind, L: Ledger>(
     ensures cost { steps.new ≡ steps.old + 1 }
 {
     counted(cmp_points(kind, a, b), steps)
-}
-
-fn unless_equal(order: Ordering) -> Option<Ordering>
-    ensures { IfSome result (λ told. (told ≡ order) × (told ≢ Equal)) }
-{
-    if order == Ordering::Equal {
-        None
-    } else {
-        Some(order)
-    }
-}
-
-// The order of two integers that differ.
-fn cmp_integers(v: &Value, w: &Value) -> Option<Ordering>
-    ensures { IfSome result (λ told. (told ≡ order v.now w.now) × (told ≢ Equal)) }
-{
-    match (v, w) {
-        (Value::Int4(m), Value::Int4(n)) => unless_equal(m.cmp(n)),
-        _ => None,
-    }
-}
-
-// The value of the first edge.
-fn first_value(point: &Point) -> Option<&Value>
-    ensures { IfSome result (λ v. slice_get point.now 0 ≡ Some (At v.now)) }
-{
-    match point.as_slice() {
-        [Edge::At(value), ..] => Some(value),
-        _ => None,
-    }
-}
-
-// The order of a point and the point of the key's first values, filled up, where the first two are integers that differ.
-fn cmp_first<Q: Key>(point: &Point, key: &Q, n: usize) -> Option<Ordering>
-    requires { n ≤ length (Q.values key.now) }
-    ensures { IfSome result (λ told. (fill : OneFill) → told ≡ point_order point.now (end_of (length point.now) n fill (Q.values key.now))) }
-{
-    if n == 0 {
-        return None;
-    }
-    match first_value(point) {
-        Some(own) => cmp_integers(own, key.value(0)),
-        None => None,
-    }
-}
-
-// The order of a point and the point of the key's first values, filled up, counted.
-pub(crate) fn count_end<K: KeyKind, Q: Key, L: Ledger>(
-    kind: &K,
-    point: &Point,
-    key: &Q,
-    n: usize,
-    fill: Fill,
-    steps: &mut Steps<L>,
-) -> Ordering
-    requires there { n ≤ length (Q.values key.now) }
-    requires fit { PointsFit point.now (end_of (length point.now) n fill (Q.values key.now)) }
-    requires of_kind { All (EdgeOfKind (K.admits kind.now)) point.now }
-    ensures order { result ≡ point_order point.now (end_of (length point.now) n fill (Q.values key.now)) }
-    ensures cost { steps.new ≡ steps.old + 1 }
-{
-    match cmp_first(point, key, n) {
-        Some(order) => counted(order, steps),
-        None => counted(cmp_end(kind, point, key, n, fill), steps),
-    }
 }
 
 // Whether the two are equal, or both null. Counted.

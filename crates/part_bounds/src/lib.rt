@@ -7,16 +7,20 @@
 //! The stored points of a level are the lower and the upper point of each range, or the listed
 //! values that are not null, ascending, and each has its child. `find_child` and `points_below`
 //! search them by halves: ranges as they stand, since stored point i is a point of range i / 2, and
-//! lists by a sorted array of the places of their values. A key lies in a range exactly where an
-//! odd number of stored points are not above it. A level by hash compares no values. The searches
-//! count each comparison of two points, or of a listed value, in a `Steps`.
+//! lists by a sorted array of the places of their values. Each stored point has a lead, a number
+//! that tells most comparisons. A key lies in a range exactly where an odd number of stored points
+//! are not above it. A level by hash compares no values: it looks for the remainder that the key's
+//! hash leaves of each modulus. The searches count each comparison of two points, or of a listed
+//! value, in a `Steps`.
 #![tactic(auto)]
 
 mod bound_set;
 mod counted;
 mod laws;
+mod lead;
 mod level_kind;
 mod listing;
+mod remainder;
 mod search;
 mod stored;
 

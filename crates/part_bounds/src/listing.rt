@@ -8,6 +8,7 @@ ghost use Rattle.bound_forms.specs.Points.{point_order, point_of, edge_order, en
 ghost use Rattle.part_bounds.specs.Sorted.{sorted};
 ghost use Rattle.bound_forms.specs.Points as points;
 ghost use Rattle.part_bounds.specs.Listings as listings;
+ghost use Rattle.part_bounds.specs.Stored.{IsRangeLevel};
 ghost use Rattle.part_bounds.specs.Listings.{AValue, values_of, mark_at, value_at, one_place, places_from, listings_from, listing_less, StandsFor};
 
 use bound_forms::{Bound, Edge, Fill, Key, cmp_fill, is_null};
@@ -56,7 +57,7 @@ fn add_child(b: &Bound, child: usize, listings: &mut Vec<Listing>) -> Result<(),
 }
 
 // The value that is listed there, or the null that is passed.
-fn listed_at<'a>(bounds: &'a [Bound], s: Listing, none: &'a Value) -> &'a Value
+pub(crate) fn listed_at<'a>(bounds: &'a [Bound], s: Listing, none: &'a Value) -> &'a Value
     requires { none.now ≡ Null }
     ensures { result.now ≡ value_at bounds.now s }
 {
@@ -136,9 +137,10 @@ fn sort_listings(bounds: &[Bound], listings: &mut Vec<Listing>) -> Result<(), No
     Ok(())
 }
 
-/// The sorted array of a level.
+/// The sorted array of a level. A level by range has none.
 pub(crate) fn listings_of(alloc: Global, bounds: &[Bound]) -> Result<Vec<Listing>, NoMemory>
-    ensures { IfOk result (λ listings. StandsFor bounds.now listings.items) }
+    ensures stands { IfOk result (λ listings. StandsFor bounds.now listings.items) }
+    ensures none { IfOk result (λ listings. IsRangeLevel bounds.now → listings.items ≡ []) }
 {
     let mut listings = Vec::new(alloc);
     for (child, b) in bounds.iter().enumerate() {

@@ -8,11 +8,11 @@ ghost use Rattle.part_bounds.specs.Stored.{stored, IsRangeLevel, IsListLevel, Is
 
 use crate::counted::{count_points, count_share};
 use crate::level_kind::{is_hash_level, is_range_level};
+use crate::remainder::remainder_child;
 use crate::stored::search_points;
 use crate::{BoundSet, default_child, points_below};
 use bound_forms::{
-    Bound, Fill, Key, Point, bound_accepts, has_null, is_default, leaves_remainder,
-    remainders_meet, row_hash,
+    Bound, Fill, Key, Point, bound_accepts, has_null, is_default, remainders_meet, row_hash,
 };
 use pg_values::{KeyKind, Steps};
 use std::marker::Brand;
@@ -143,13 +143,7 @@ fn hash_child<K: KeyKind, Q: Key>(set: &BoundSet<K>, key: &Q) -> Option<usize>
     requires { IsHashLevel set.now }
     ensures { result ≡ position (accepts_spec.accepts (Q.values key.now)) set.now }
 {
-    let hash = row_hash(key);
-    for (i, b) in set.bounds.iter().enumerate() {
-        if leaves_remainder(b, hash) {
-            return Some(i);
-        }
-    }
-    None
+    remainder_child(&set.bounds, row_hash(key))
 }
 
 // The partition whose bound by itself accepts the key.

@@ -3,32 +3,20 @@ ghost use Rattle.std.specs.List.{count_by};
 ghost use Rattle.bound_forms.specs.Accepts as accepts;
 ghost use Rattle.bound_forms.specs.declared.partition_bound.Bound.TheVariants.{Default as ByDefault};
 ghost use Rattle.bound_forms.specs.Points.{EdgeOfKind, point_order, end_of};
-ghost use Rattle.std.specs.Ordering.{is_le as order_is_le, is_lt as order_is_lt};
+ghost use Rattle.std.specs.Ordering.{is_eq, is_le as order_is_le, is_lt as order_is_lt};
+ghost use Rattle.part_bounds.specs.Leads as leads;
 ghost use Rattle.part_bounds.specs.Stored as spec;
 ghost use Rattle.part_bounds.specs.Stored.{CanBegin, InRow, stored, range_points, width, passes, owners, in_sibling, upper_of, HasPoints, IsRangeLevel, TellsEqual, RangesFit, FitsEnd, Splits};
 
 use crate::BoundSet;
-use crate::counted::{count_end, counted};
+use crate::counted::counted;
+use crate::lead::end_lead;
 use crate::level_kind::is_range_level;
 use crate::listing::cmp_listed_end;
-use bound_forms::{Bound, Fill, Key, Point, cmp_points, is_default};
+use bound_forms::{Bound, Fill, Key, Point, cmp_end, cmp_points};
 use pg_values::{KeyKind, Steps};
 use std::cmp::Ordering;
 use std::sync::ledger::Ledger;
-
-// How many bounds are ranges.
-fn range_count<K: KeyKind>(set: &BoundSet<K>) -> usize
-    requires { IsRangeLevel set.now }
-    ensures count { length (stored set.now) ≡ 2 * result }
-    ensures within { result ≤ length set.now }
-{
-    let bounds: &Vec<Bound> = &set.bounds;
-    let n = bounds.len();
-    if n == 0 {
-        return 0;
-    }
-    if is_default(&bounds[n - 1]) { n - 1 } else { n }
-}
 
 // The stored point of this number.
 fn stored_point<K: KeyKind>(set: &BoundSet<K>, i: usize) -> &Point
@@ -42,19 +30,8 @@ fn stored_point<K: KeyKind>(set: &BoundSet<K>, i: usize) -> &Point
     }
 }
 
-// How many stored points there are.
-fn point_count<K: KeyKind>(set: &BoundSet<K>) -> usize
-    requires { HasPoints set.now }
-    ensures { result ≡ length (stored set.now) }
-{
-    if is_range_level(set) {
-        2 * range_count(set)
-    } else {
-        set.listings.len()
-    }
-}
-
 // The order of the stored point of this number and the point of the key's first values, filled up. Counted.
+#[inline(never)]
 fn count_point<K: KeyKind, Q: Key, L: Ledger>(
     set: &BoundSet<K>,
     i: usize,
@@ -72,7 +49,10 @@ fn count_point<K: KeyKind, Q: Key, L: Ledger>(
 {
     let _bounds = &set.bounds;
     if is_range_level(set) {
-        count_end(&set.kind, stored_point(set, i), key, n, fill, steps)
+        counted(
+            cmp_end(&set.kind, stored_point(set, i), key, n, fill),
+            steps,
+        )
     } else {
         counted(
             cmp_listed_end(&set.bounds, set.listings[i], key, n, fill),
@@ -81,6 +61,7 @@ fn count_point<K: KeyKind, Q: Key, L: Ledger>(
     }
 }
 
+#[inline(always)]
 fn is_before(order: Ordering, or_equal: bool) -> bool
     ensures { result ≡ if or_equal then order_is_le order else order_is_lt order }
 {
@@ -88,6 +69,51 @@ fn is_before(order: Ordering, or_equal: bool) -> bool
         order.is_le()
     } else {
         order.is_lt()
+    }
+}
+
+// What a test of a stored point tells: whether it lies before the point that is searched for, and whether it is equal to it.
+#[derive(Clone, Copy, Debug)]
+struct Tested {
+    before: bool,
+    equal: bool,
+}
+
+// Tests the stored point of this number, whose lead is `own`, against the point of the key's first values, filled up, whose lead
+// is `lead`. Leads that differ tell without going to the point. Counted.
+#[inline(always)]
+fn test_point<K: KeyKind, Q: Key, L: Ledger>(
+    set: &BoundSet<K>,
+    i: usize,
+    own: i64,
+    lead: i64,
+    key: &Q,
+    n: usize,
+    fill: Fill,
+    or_equal: bool,
+    steps: &mut Steps<L>,
+) -> Tested
+    requires level { HasPoints set.now }
+    requires there { n ≤ length (Q.values key.now) }
+    requires fits { FitsEnd set.now n fill (Q.values key.now) }
+    requires is_point { i < length (stored set.now) }
+    requires own { own ≡ leads.lead (slice_index_or (stored set.now) i []) }
+    requires lead { lead ≡ leads.lead (end_of (width set.now) n fill (Q.values key.now)) }
+    ensures before { result.before ≡ passes or_equal (end_of (width set.now) n fill (Q.values key.now)) (slice_index_or (stored set.now) i []) }
+    ensures equal { result.equal ≡ is_eq (point_order (slice_index_or (stored set.now) i []) (end_of (width set.now) n fill (Q.values key.now))) }
+    ensures cost { steps.new ≡ steps.old + 1 }
+{
+    if own != lead {
+        steps.tick();
+        return Tested {
+            before: own < lead,
+            equal: false,
+        };
+    }
+    let order = count_point(set, i, key, n, fill, steps);
+    Tested {
+        before: is_before(order, or_equal),
+        equal: order.is_eq(),
     }
 }
 
@@ -116,15 +142,27 @@ pub(crate) fn search_points<K: KeyKind, Q: Key, L: Ledger>(
     ensures counted { length (stored set.now) + 2 ≤ 2 * 2 ^ (steps.new - steps.old) }
     ensures cost { 2 ^ (steps.new - steps.old) ≤ 2 * length (stored set.now) + 2 }
 {
+    let leads: &Vec<i64> = &set.leads;
+    let lead = end_lead(key, n, fill);
     let mut low = 0;
-    let mut high = point_count(set);
+    let mut high = leads.len();
     let mut equal = false;
     while low < high {
         let middle = low + (high - low) / 2;
-        let order = count_point(set, middle, key, n, fill, steps);
-        if is_before(order, or_equal) {
+        let tested = test_point(
+            set,
+            middle,
+            leads[middle],
+            lead,
+            key,
+            n,
+            fill,
+            or_equal,
+            steps,
+        );
+        if tested.before {
             low = middle + 1;
-            equal = order.is_eq();
+            equal = tested.equal;
         } else {
             high = middle;
         }
