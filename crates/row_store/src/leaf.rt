@@ -10,7 +10,7 @@ use std::marker::Model;
 use tx_table::TxTable;
 
 // Fewer versions are not gone through.
-const FEW: usize = 16;
+const FEW: usize = 64;
 
 /// The numbers of the versions of a leaf, in order of birth, without some that are dead.
 #[derive(Debug, Drop)]
