@@ -1,8 +1,8 @@
-use pg_values::{ListOf, RowList};
+use pg_values::{ListOf, Row};
 
 /// An INSERT: the places of the columns that get values, and in each row a value for each of them.
 #[derive(Debug, Drop)]
 pub struct InsertAsk {
     pub columns: ListOf<usize>,
-    pub rows: RowList,
+    pub rows: ListOf<Row>,
 }

@@ -13,9 +13,8 @@ use Rattle.part_catalog.specs.Stands.{CatalogueStands}
 use Rattle.sql_ast.specs.Expressions.{Trees}
 use Rattle.expression_binder.specs.Firsts.{IsAnswerBy}
 use Rattle.expression_binder.specs.declared.scope.Param.{Param}
-use Rattle.cond_logic.specs.Asked.{InsertMeant}
-use Rattle.sql_binder.specs.Inserts.{values_meant}
-use Rattle.sql_binder.specs.declared.insert_values.InsertValues.{InsertValues}
+use Rattle.cond_logic.specs.Asked.{InsertMeant, insert_meant}
+use Rattle.cond_logic.specs.declared.insert.InsertAsk.{InsertAsk}
 use Rattle.row_change.specs.FullRows.{full_row}
 use Rattle.stores.specs.declared.stores.Stores.{Stores}
 use Rattle.statement_steps.specs.Attempts.{MayAttempt}
@@ -27,10 +26,10 @@ use Rattle.insert_statement.specs.Inserted.{whole, whole_rows, rows_meant}
 
 -- ---- a value for each column
 
-pub whole_done : (width : ℕ) (values : InsertValues) (asked : Result InsertMeant Fault) (rows : List (List Value)) → asked ≡ Ok (values_meant values) → rows ≡ map (full_row width values.columns) values.rows → whole width asked ≡ Ok rows
+pub whole_done : (width : ℕ) (values : InsertAsk) (asked : Result InsertMeant Fault) (rows : List (List Value)) → asked ≡ Ok (insert_meant values) → rows ≡ map (full_row width values.columns) values.rows → whole width asked ≡ Ok rows
 whole_done width values asked rows is are = ap (whole width) is ∙ ap Ok (sym are)
 
-pub whole_refused : {X : Type 0} (see : X → List (List Value)) (width : ℕ) (r : Refusal) (asked : Result InsertMeant Fault) → IsAnswerBy values_meant (Err r) asked → IsAnswerBy see (Err r) (whole width asked)
+pub whole_refused : {X : Type 0} (see : X → List (List Value)) (width : ℕ) (r : Refusal) (asked : Result InsertMeant Fault) → IsAnswerBy insert_meant (Err r) asked → IsAnswerBy see (Err r) (whole width asked)
 whole_refused see width (Sql f) asked is = ap (whole width) is
 whole_refused see width NoMemory asked is = tt
 

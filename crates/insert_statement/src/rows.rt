@@ -10,12 +10,13 @@ ghost use Rattle.insert_statement.specs.Inserted as inserted;
 ghost use Rattle.row_change.specs.Laws.{AreRowsOf};
 
 use binding_laws::inserts_fit;
+use cond_logic::InsertAsk;
 use expression_binder::Param;
 use history::Column;
 use pg_values::{NoMemory, Refusal, Row, TableNo};
 use row_change::full_row;
 use sql_ast::Insert;
-use sql_binder::{InsertValues, bind_insert_values};
+use sql_binder::bind_insert;
 use statement_steps::{Attempt, Stop, scope_columns};
 use std::alloc::Global;
 use stores::Stores;
@@ -47,10 +48,10 @@ fn rows_for(
     ensures { IsAnswerBy (λ rows. rows.items) result (inserted.whole_rows columns.now params.now session statement.now.columns (map trees statement.now.rows)) }
 {
     let named = scope_columns(alloc, columns)?;
-    let InsertValues {
+    let InsertAsk {
         columns: places,
         rows,
-    } = bind_insert_values(alloc, statement, &named, params, session)?;
+    } = bind_insert(alloc, statement, &named, params, session)?;
     Ok(whole_rows(alloc, columns.len(), places.as_slice(), rows.into_vec())?)
 }
 

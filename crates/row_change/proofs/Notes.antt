@@ -1,15 +1,20 @@
 -- What is noted of leaves.
-use Rattle.std.proofs.Common.{◌≡◌, ℕ, zero, suc, ◌<◌, ◌==◌, arith, refl, sym, subst, ◌∙◌, if◌then◌else◌, Bool, true, false, List, [], ◌∷◌, ◌++◌, Option, Some, None, get_or, length, set}
+use Rattle.std.proofs.Common.{◌≡◌, ℕ, zero, suc, ◌<◌, ◌≤◌, ◌==◌, arith, refl, ap, sym, subst, ◌∙◌, take, if◌then◌else◌, Bool, true, false, List, [], ◌∷◌, ◌++◌, Option, Some, None, get_or, length, set}
 use Rattle.std.specs.Option.{option_or}
 use Rattle.std.proofs.lemmas.Bool.Decides.{nat_tests}
-use Rattle.std.proofs.lemmas.List.{get_or-set_same, get_or-set_other}
+use Rattle.std.specs.Prelude.{replicate}
+use Rattle.std.proofs.lemmas.List.{get_or-set_same, get_or-set_other, take_all}
 
 -- room alone notes nothing
-pub none_more : {V : Type 0} (xs : List (Option V)) (k : ℕ) → get_or (xs ++ None ∷ []) k None ≡ get_or xs k None
-none_more [] zero = refl
-none_more [] (suc k) = refl
-none_more (x ∷ xs) zero = refl
-none_more (x ∷ xs) (suc k) = none_more xs k
+none_behind : {V : Type 0} (xs : List (Option V)) (m k : ℕ) → get_or (xs ++ replicate m None) k None ≡ get_or xs k None
+none_behind [] zero k = refl
+none_behind [] (suc m) zero = refl
+none_behind [] (suc m) (suc k) = none_behind [] m k
+none_behind (x ∷ xs) m zero = refl
+none_behind (x ∷ xs) m (suc k) = none_behind xs m k
+
+pub none_more : {V : Type 0} (old new : List (Option V)) (n m k : ℕ) → length old ≤ n → new ≡ take n old ++ replicate m None → get_or new k None ≡ get_or old k None
+none_more {V} old new n m k long is = ap (λ (xs : List (Option V)). get_or xs k None) (is ∙ ap (λ (xs : List (Option V)). xs ++ replicate m None) (take_all n old long)) ∙ none_behind old m k
 
 or_none : {V : Type 0} (o : Option V) → option_or o None ≡ o
 or_none None = refl

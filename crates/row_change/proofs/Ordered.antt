@@ -1,6 +1,8 @@
 -- Rows whose values are those of all columns in their order.
-use Rattle.std.proofs.Common.{◌≡◌, ℕ, zero, suc, ◌+◌, ◌<◌, ◌≤◌, ◌==◌, Bool, true, false, if◌then◌else◌, List, [], ◌∷◌, length, get_or, map, refl, sym, ap, ◌∙◌, arith}
+use Rattle.std.proofs.Common.{◌≡◌, ℕ, zero, suc, ◌+◌, ◌<◌, ◌≤◌, ◌==◌, Bool, true, false, if◌then◌else◌, List, [], ◌∷◌, ◌++◌, length, get_or, map, take, refl, sym, ap, subst, ◌∙◌, arith, add-one}
 use Rattle.std.specs.List.{range_with_len}
+use Rattle.std.proofs.Math.Seq.{take-suc}
+use Rattle.std.proofs.lemmas.List.{map_more, take_all}
 use Rattle.std.proofs.lemmas.Bool.Decides.{nat_tests}
 use Rattle.pg_values.specs.declared.value.Value.{Value}
 use Rattle.row_change.specs.FullRows.{value_for, full_row}
@@ -33,3 +35,18 @@ pub in_order : (width : ℕ) (named : List ℕ) (values : List Value) → length
 in_order width named values named_is values_are each =
     ap (λ w. full_row w named values) (sym values_are)
     ∙ in_order_from 0 named values (named_is ∙ sym values_are) (λ k lt. each k lt ∙ omega arith)
+
+-- ---- rows that are full
+
+pub full_more : (f : List Value → List Value) (rows : List (List Value)) (i : ℕ) (r : List Value) → i < length rows → r ≡ get_or rows i r → f r ≡ r → map f (take i rows) ≡ take i rows → map f (take (i + 1) rows) ≡ take (i + 1) rows
+full_more f rows i r lt at same done =
+    let next : i + 1 ≡ suc i = add-one i in
+    let more : take (i + 1) rows ≡ take i rows ++ r ∷ [] = rw next (take-suc rows i r lt ∙ ap (λ (x : List Value). take i rows ++ x ∷ []) (sym at)) in
+    map_more f rows i r lt
+    ∙ ap (λ (x : List Value). map f (take i rows) ++ f x ∷ []) (sym at)
+    ∙ ap (λ (x : List Value). map f (take i rows) ++ x ∷ []) same
+    ∙ ap (λ (xs : List (List Value)). xs ++ r ∷ []) done
+    ∙ sym more
+
+pub full_done : (f : List Value → List Value) (rows : List (List Value)) (i : ℕ) → length rows ≤ i → map f (take i rows) ≡ take i rows → map f rows ≡ rows
+full_done f rows i over done = subst (λ (xs : List (List Value)). map f xs ≡ xs) (take_all i rows over) done

@@ -33,14 +33,15 @@ impl<V: Copy> ByLeaf<V> {
     }
 
     // Makes room for a leaf.
-    #[tactic(auto, using(crate::proofs::Notes::none_more))]
     fn reach(&mut self, leaf: LeafId) -> Result<(), NoMemory>
         ensures room { OnOk result (leaf.number < length self.new.notes.items) }
         ensures same { OnOk result ((l : LeafId) → noted self.new l ≡ noted self.old l) }
     {
-        while self.notes.len() <= leaf.number as usize {
-            self.notes.push(None)?;
+        let place = leaf.number as usize;
+        if place < self.notes.len() {
+            return Ok(());
         }
+        self.notes.resize(place + 1, None)?;
         Ok(())
     }
 

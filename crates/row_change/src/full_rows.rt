@@ -1,4 +1,4 @@
-ghost use Rattle.std.specs.Prelude.{◌≡◌, ℕ, ◌<◌, ◌++◌, ◌∷◌, [], true, length, get_or, IfOk, OnOk};
+ghost use Rattle.std.specs.Prelude.{◌≡◌, ℕ, ◌<◌, ◌++◌, ◌∷◌, [], true, length, map, get_or, IfOk, OnOk};
 ghost use Rattle.row_change.specs.FullRows as full_rows;
 
 use pg_values::{NoMemory, Row, Value, copy_value};
@@ -70,6 +70,18 @@ fn is_full(width: usize, named: &[usize], values: &Row) -> bool
         return false;
     }
     are_in_order(named)
+}
+
+/// Whether each of the rows has a value for each column, in their order.
+pub fn are_full(width: usize, named: &[usize], rows: &[Row]) -> bool
+    ensures { result ≡ true → map (full_rows.full_row width named.now) rows.now ≡ rows.now }
+{
+    for row in rows {
+        if !is_full(width, named, row) {
+            return false;
+        }
+    }
+    true
 }
 
 /// The row of a table of so many columns from the values for the named ones, which it is itself where all are

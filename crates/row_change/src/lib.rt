@@ -32,7 +32,7 @@ mod target;
 mod testing;
 mod way;
 
-pub use full_rows::full_row;
+pub use full_rows::{are_full, full_row};
 pub use holders::{Holders, holders_of};
 pub use laws::{
     rows_are_of_ways, rows_fit_paths, tables_are_made, targets_fit, ways_lead_to_leaves,

@@ -15,7 +15,7 @@ use crate::Target;
 use crate::placing::check_bounds;
 use history::Column;
 use part_catalog::Catalog;
-use pg_values::{Fault, NoMemory, Refusal, Row, TableNo, Value};
+use pg_values::{Fault, NoMemory, PgText, Refusal, Row, TableNo, Value};
 use refusals::{kept_check, null_column};
 use row_router::{PathPart, PathTest, fits_path};
 use std::alloc::Global;
@@ -26,18 +26,23 @@ fn is_null(value: &Value) -> bool
     matches!(value, Value::Null)
 }
 
-fn check_null(alloc: Global, leaf: &[u8], column: &Column, value: &Value) -> Result<(), Refusal>
+fn check_null(alloc: Global, leaf: &PgText, column: &Column, value: &Value) -> Result<(), Refusal>
     ensures { IsAnswer result (or_first (unless (not (column.now.not_null && points.is_null value.now)) (refusals.null_column column.now.name leaf.now)) tt) }
 {
     if column.not_null && is_null(value) {
-        Err(Refusal::Sql(null_column(alloc, column.name.as_bytes(), leaf)?))
+        Err(Refusal::Sql(null_column(alloc, column.name.as_bytes(), leaf.as_bytes())?))
     } else {
         Ok(())
     }
 }
 
 // The first column that is NOT NULL and has null: 23502.
-fn check_nulls(alloc: Global, leaf: &[u8], columns: &[Column], row: &[Value]) -> Result<(), Refusal>
+fn check_nulls(
+    alloc: Global,
+    leaf: &PgText,
+    columns: &[Column],
+    row: &[Value],
+) -> Result<(), Refusal>
     ensures { IsAnswer result (or_first (null_faults leaf.now columns.now row.now) tt) }
 {
     let mut rest = row;
@@ -64,12 +69,7 @@ fn check_own_nulls(
         IsAnswer result (or_first (own_null_faults (tables_made (catalogue_events h)) table row.now) tt) }
 {
     let table = catalog.table(table);
-    check_nulls(
-        alloc,
-        table.name.as_bytes(),
-        table.columns.as_slice(),
-        row.as_slice(),
-    )
+    check_nulls(alloc, &table.name, table.columns.as_slice(), row.as_slice())
 }
 
 fn refused_by_check(

@@ -16,7 +16,6 @@ use Rattle.expression_binder.specs.Kinds.{assigned_faults, count_faults}
 use Rattle.expression_binder.specs.Operands.{operand_faults, typed}
 use Rattle.expression_binder.specs.Scopes.{Scope, condition_scope, is_called}
 use Rattle.cond_logic.specs.Asked.{InsertMeant}
-use Rattle.sql_binder.specs.declared.insert_values.InsertValues.{InsertValues}
 
 -- ---- columns
 
@@ -91,9 +90,6 @@ all_values s kinds (r ∷ rs) = row_values s kinds r ∷ all_values s kinds rs
 abbrev pub first_count : List Trees → ℕ
 first_count [] = 0
 first_count (r ∷ rs) = count_of r
-
-abbrev pub values_meant : InsertValues → InsertMeant
-values_meant v = record { columns = v.columns; rows = v.rows }
 
 -- without a list of columns they are the table's first ones, as many as the first row has values
 abbrev pub targets : List ScopeColumn → Option (List (List ℕ)) → List Trees → List ℕ

@@ -7,17 +7,16 @@ ghost use Rattle.expression_binder.specs.Firsts.{or_first, IsAnswerBy};
 ghost use Rattle.expression_binder.specs.Kinds as kinds_spec;
 ghost use Rattle.expression_binder.specs.Operands.{operand_faults, typed};
 ghost use Rattle.sql_binder.specs.Inserts as inserts;
-ghost use Rattle.sql_binder.specs.Inserts.{bound_insert, values_meant};
+ghost use Rattle.sql_binder.specs.Inserts.{bound_insert};
 ghost use Rattle.cond_logic.specs.Asked.{insert_meant};
 
-use crate::InsertValues;
 use crate::plain::{is_plain, plain_value};
 use cond_logic::InsertAsk;
 use expression_binder::{
     Names, Param, ScopeColumn, bind_constant, check_assigned, check_count, check_operand,
     condition_names, store, typed_of,
 };
-use pg_values::{Kind, ListOf, NoMemory, PgText, Refusal, Row, RowList, Value};
+use pg_values::{Kind, ListOf, NoMemory, PgText, Refusal, Row, Value};
 use refusals::{no_column, set_twice};
 use sql_ast::{Expr, ExprList, Insert, NameList};
 use std::alloc::Global;
@@ -179,6 +178,14 @@ fn kinds_of(alloc: Global, columns: &[ScopeColumn], places: &[usize]) -> Result<
 
 // ---- rows
 
+#[inline(never)]
+fn check_any(alloc: Global, names: &Names<'_>, kind: Kind, e: &Expr) -> Result<(), Refusal>
+    ensures { IsAnswer result (or_first (operand_faults names.now (tree e.now) ++ kinds_spec.assigned_faults kind (typed names.now (tree e.now)).given) tt) }
+{
+    check_operand(alloc, names, e)?;
+    check_assigned(alloc, kind, typed_of(names, e).given)
+}
+
 /// The operand, and that a column of the kind may get it: 42804.
 pub(crate) fn check_value(
     alloc: Global,
@@ -191,8 +198,7 @@ pub(crate) fn check_value(
     if is_plain(kind, e) {
         return Ok(());
     }
-    check_operand(alloc, names, e)?;
-    check_assigned(alloc, kind, typed_of(names, e).given)
+    check_any(alloc, names, kind, e)
 }
 
 fn check_values(
@@ -242,6 +248,14 @@ fn check_rows(
     Ok(())
 }
 
+#[inline(never)]
+fn computed_value(alloc: Global, names: &Names<'_>, kind: Kind, e: &Expr) -> Result<Value, Refusal>
+    ensures { IsAnswer result (inserts.stored_value names.now kind (tree e.now)) }
+{
+    let value = bind_constant(alloc, names, kind, e)?;
+    store(alloc, kind, value)
+}
+
 /// The value of a constant, as a column of the kind gets it.
 pub(crate) fn stored_value(
     alloc: Global,
@@ -254,8 +268,7 @@ pub(crate) fn stored_value(
     if let Some(value) = plain_value(kind, e) {
         return Ok(value);
     }
-    let value = bind_constant(alloc, names, kind, e)?;
-    store(alloc, kind, value)
+    computed_value(alloc, names, kind, e)
 }
 
 fn add_value(row: &mut Row, value: Value) -> Result<(), NoMemory>
@@ -343,12 +356,12 @@ fn bind_into(
     columns: &[ScopeColumn],
     targets: Vec<usize>,
     rows: &[ExprList],
-) -> Result<InsertValues, Refusal>
-    ensures { IsAnswerBy values_meant result (or_first (inserts.row_faults names.now (inserts.kinds_of columns.now targets.items) (length targets.items) (map trees rows.now) ++ inserts.row_constants names.now (inserts.kinds_of columns.now targets.items) (map trees rows.now)) (record { columns = targets.items; rows = inserts.all_values names.now (inserts.kinds_of columns.now targets.items) (map trees rows.now) })) }
+) -> Result<InsertAsk, Refusal>
+    ensures { IsAnswerBy insert_meant result (or_first (inserts.row_faults names.now (inserts.kinds_of columns.now targets.items) (length targets.items) (map trees rows.now) ++ inserts.row_constants names.now (inserts.kinds_of columns.now targets.items) (map trees rows.now)) (record { columns = targets.items; rows = inserts.all_values names.now (inserts.kinds_of columns.now targets.items) (map trees rows.now) })) }
 {
     let kinds = kinds_of(alloc, columns, &targets)?;
     let rows = check_and_bind(alloc, names, &kinds, rows)?;
-    Ok(InsertValues {
+    Ok(InsertAsk {
         columns: ListOf::from_vec(targets),
         rows,
     })
@@ -357,32 +370,6 @@ fn bind_into(
 /// The INSERT by places and values, into a table with the columns; or its first fault. The column list
 /// comes first: 42703, or 42601 for a column that stands there twice. Then names and kinds in the values
 /// of each row, and their count: 42601. Then constants.
-pub fn bind_insert_values(
-    alloc: Global,
-    insert: &Insert,
-    columns: &[ScopeColumn],
-    params: &[Param],
-    session: u32,
-) -> Result<InsertValues, Refusal>
-    ensures { IsAnswerBy values_meant result (bound_insert columns.now params.now session insert.now.columns (map trees insert.now.rows)) }
-{
-    check_named(alloc, columns, &insert.columns)?;
-    let rows = insert.rows.as_slice();
-    let targets = targets(alloc, columns, &insert.columns, rows)?;
-    bind_into(alloc, &value_scope(params, session), columns, targets, rows)
-}
-
-fn list_rows(alloc: Global, rows: ListOf<Row>) -> Result<RowList, NoMemory>
-    ensures { IfOk result (λ list. list ≡ rows) }
-{
-    let mut list = RowList::new(alloc);
-    for row in rows.into_vec() {
-        list.push(row)?;
-    }
-    Ok(list)
-}
-
-/// The same as what the statement asks for.
 pub fn bind_insert(
     alloc: Global,
     insert: &Insert,
@@ -392,9 +379,8 @@ pub fn bind_insert(
 ) -> Result<InsertAsk, Refusal>
     ensures { IsAnswerBy insert_meant result (bound_insert columns.now params.now session insert.now.columns (map trees insert.now.rows)) }
 {
-    let InsertValues { columns, rows } = bind_insert_values(
-        alloc, insert, columns, params, session,
-    )?;
-    let rows = list_rows(alloc, rows)?;
-    Ok(InsertAsk { columns, rows })
+    check_named(alloc, columns, &insert.columns)?;
+    let rows = insert.rows.as_slice();
+    let targets = targets(alloc, columns, &insert.columns, rows)?;
+    bind_into(alloc, &value_scope(params, session), columns, targets, rows)
 }

@@ -19,7 +19,6 @@ mod changes;
 mod counts;
 mod from;
 mod heading;
-mod insert_values;
 mod inserts;
 mod items;
 mod key_names;
@@ -31,7 +30,6 @@ mod values;
 
 pub use arguments::{Wanted, bind_arguments};
 pub use changes::{bind_delete, bind_update};
-pub use insert_values::InsertValues;
-pub use inserts::{bind_insert, bind_insert_values};
+pub use inserts::bind_insert;
 pub use selects::bind_select;
 pub use values::{put_change_values, put_values, values_of};
