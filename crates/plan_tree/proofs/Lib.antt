@@ -1,8 +1,11 @@
 pub mod Alike
 pub mod Apart
 pub mod Arguments
+pub mod Asked
 pub mod Conditions
 pub mod Counting
+pub mod Fewer
+pub mod Filling
 pub mod Made
 pub mod Matching
 pub mod Missed
@@ -17,6 +20,8 @@ pub mod Plain
 pub mod Pools
 pub mod Pushing
 pub mod Right
+pub mod Rooms
+pub mod RowsBeside
 pub mod Searching
 pub mod Small
 pub mod Starting

@@ -35,7 +35,7 @@ pub left_items : (items : List Tree) (k : ℕ) (child : Tree) → k < length ite
 left_items items k child lt is = drop_more items k child lt ∙ ap (λ x. x ∷ drop (k + 1) items) (sym is)
 
 module _ (keeps : Keeps) (test : Bound → Bool) (bounds : List Bound) (items : List Tree) (k : ℕ) (child : Tree) (in_bounds : k < length bounds) (in_items : k < length items) (is : child ≡ get_or items k child) where
-  leaves_step : leaves_among keeps test (drop k bounds) (kids (drop k items)) ≡ (if test (slice_index_or bounds k Default) then leaves_below keeps (seen child) else []) ++ leaves_among keeps test (drop (k + 1) bounds) (kids (drop (k + 1) items))
+  pub leaves_step : leaves_among keeps test (drop k bounds) (kids (drop k items)) ≡ (if test (slice_index_or bounds k Default) then leaves_below keeps (seen child) else []) ++ leaves_among keeps test (drop (k + 1) bounds) (kids (drop (k + 1) items))
   leaves_step = ap (λ bs. leaves_among keeps test bs (kids (drop k items))) (left_bounds bounds k in_bounds) ∙ ap (λ xs. leaves_among keeps test (slice_index_or bounds k Default ∷ drop (k + 1) bounds) (kids xs)) (left_items items k child in_items is)
 
   tables_step : tables_among keeps test (drop k bounds) (kids (drop k items))
@@ -161,7 +161,7 @@ module _ (keeps : Keeps) (tree : TableTree) (items : List Tree) (kept : List ℕ
   child_prunes : CanPrune (seen child)
   child_prunes = child_can keeps (test_of keeps tree) (bounds_of tree) items k child in_bounds lt is going.can
 
-child_there : (items : List Tree) (k : ℕ) → k < length items → (child : Tree) × (child ≡ get_or items k child)
+pub child_there : (items : List Tree) (k : ℕ) → k < length items → (child : Tree) × (child ≡ get_or items k child)
 child_there [] k lt = absurd (omega (arith, lt))
 child_there (x ∷ items) zero lt = (x, refl)
 child_there (x ∷ items) (suc k) lt = let rest = child_there items k (omega (arith, lt)) in (rest.0, rest.1)

@@ -1,5 +1,5 @@
 -- The leaves of a tree that a condition keeps, and the tables that lead to them (5.11.4 Partition Pruning).
-use Rattle.std.specs.Prelude.{◌≡◌, ℕ, Bool, true, false, if◌then◌else◌, List, [], ◌∷◌, ◌++◌, length}
+use Rattle.std.specs.Prelude.{◌≡◌, ◌<◌, ℕ, Bool, true, false, ◌&&◌, if◌then◌else◌, List, [], ◌∷◌, ◌++◌, length}
 use Rattle.std.specs.List.{list_all, slice_index_or}
 use Rattle.pg_values.specs.declared.ids.LeafId.{LeafId}
 use Rattle.pg_values.specs.declared.ids.TableNo.{TableNo}
@@ -13,7 +13,7 @@ use Rattle.row_router.specs.Trees.{TableTree, LeafTable, LevelTable, Trees, End,
 use Rattle.cond_logic.specs.Tables.{Leaf}
 use Rattle.cond_logic.specs.Trees.{CondTree}
 use Rattle.prune_steps.specs.Atoms.{asked}
-use Rattle.prune_steps.specs.Bits.{AreBits}
+use Rattle.prune_steps.specs.Bits.{AreBits, bit}
 use Rattle.prune_steps.specs.Kept.{kept}
 
 -- whether a level with these bounds keeps the child under one of them
@@ -69,6 +69,10 @@ no_keys = record { strategy = ByRange; columns = []; one_if_list = not_by_list }
 abbrev pub keeps_plain : Keeps → Bool
 keeps_plain keeps = keeps no_keys (Default ∷ []) Default
 
+abbrev pub is_plain : TableTree → Bool
+is_plain (LeafTable node leaf) = true
+is_plain (LevelTable node level bounds kids) = false
+
 -- Kept: of a tree, and of a plain table
 abbrev pub kept_leaves : Keeps → TableTree → List Leaf
 kept_leaves keeps (LeafTable node leaf) = if keeps_plain keeps then leaf_of node leaf ∷ [] else []
@@ -102,3 +106,7 @@ abbrev mutual
 -- the set has the children that the test takes, by their numbers
 abbrev pub AreKept : List ℕ → (Bound → Bool) → List Bound → Type 0
 AreKept kept test bounds = AreBits (length bounds) kept (λ k. test (slice_index_or bounds k Default))
+
+-- of the first set those that the test takes too
+abbrev pub AreMet : (new old : List ℕ) → (Bound → Bool) → List Bound → Type 0
+AreMet new old test bounds = (k : ℕ) → k < length bounds → bit new k ≡ (bit old k && test (slice_index_or bounds k Default))

@@ -1,3 +1,4 @@
+pub mod Asks
 pub mod Beside
 pub mod Conditions
 pub mod Conjuncts

@@ -38,22 +38,28 @@
 //! of the stores (`shown_lie_right`, `trees_can_be_pruned`, `trees_stand_in_order`).
 #![tactic(auto)]
 
-mod beside;
+mod asking;
+mod asks;
 mod condition;
 mod conjuncts;
 mod count;
 mod item;
 mod item_counts;
+mod items;
 mod join_kind;
 mod laws;
+mod listing;
 mod making;
 mod ordered;
 mod pairs;
 mod parameters;
+mod plain_bounds;
+mod plain_set;
 mod plan;
 mod plan_counts;
 mod planning;
 mod pruning;
+mod rows_beside;
 
 pub use condition::{all_hold, copy_cond};
 pub use count::{Count, PartCount};
@@ -64,6 +70,7 @@ pub use laws::{
 };
 pub use making::make_plan;
 pub use pairs::{PlanPair, match_children};
+pub use plain_set::PlainSet;
 pub use plan::Plan;
 pub use plan_counts::PlanCounts;
 pub use planning::Planning;

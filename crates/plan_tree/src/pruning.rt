@@ -1,28 +1,23 @@
 //! The kept leaves of a tree, and the tables that lead to them.
 
-ghost use Rattle.std.specs.Prelude.{◌≡◌, ◌<◌, ◌≤◌, ◌++◌, [], All, IfOk, OnOk, if◌then◌else◌, length, map, slice_index_or};
-ghost use Rattle.bound_forms.specs.declared.partition_bound.Bound.TheVariants.{Default as ByDefault};
-ghost use Rattle.bound_forms.specs.Levels.{IsOfLevel};
+ghost use Rattle.std.specs.Prelude.{◌≡◌, ◌++◌, ◌∷◌, [], IfOk, OnOk, if◌then◌else◌, is_some, map};
 ghost use Rattle.cond_logic.specs.Trees.{cond_tree};
 ghost use Rattle.row_router.specs.Seen.{seen};
-ghost use Rattle.prune_steps.specs.Atoms.{asked};
-ghost use Rattle.prune_steps.specs.Bits.{AreBits};
-ghost use Rattle.prune_steps.specs.Kept as kept_one;
+ghost use Rattle.plan_tree.specs.Asks.{AreStepsOf, keeps_alone};
 ghost use Rattle.plan_tree.specs.Kept as kept_spec;
-ghost use Rattle.plan_tree.specs.Kept.{AreKept, keeps_by, keeps_for, keeps_plain, led, leaves_below, node_of};
-ghost use Rattle.plan_tree.specs.Parts.{in_part, in_partition, partitions};
+ghost use Rattle.plan_tree.specs.Kept.{is_plain, keeps_by, keeps_for, led, leaves_below, node_of};
+ghost use Rattle.plan_tree.specs.Parts.{in_partition, partitions};
 ghost use Rattle.plan_tree.specs.Prunable.{CanPrune};
 
-use crate::condition::copy_cond;
-use bound_forms::{Bound, KeyColumns, Level};
-use cond_logic::{Cond, NamedLeaf};
-use part_bounds::{BoundSet, make_set};
-use pg_values::{ListOf, NoMemory, Steps, Strategy, TableNo, ValueKey};
-use prune_steps::{KeptSet, make_steps, run_steps};
+use crate::PlainSet;
+use crate::asking::{is_plain_kept, kept_alone};
+use crate::asks::Asks;
+use crate::plain_bounds::plain_of;
+use cond_logic::{Binding, Cond, NamedLeaf};
+use pg_values::{ListOf, NoMemory, TableNo};
+use prune_steps::Pruning;
 use row_router::{Shape, Tree};
 use std::alloc::Global;
-use std::marker::Brand;
-use std::sync::ledger::{Blank, Ledger};
 
 /// The kept leaves of a tree, and the tables under it that lead to them.
 #[derive(Debug, Drop)]
@@ -31,7 +26,7 @@ pub struct KeptParts<'t> {
     pub leaves: ListOf<NamedLeaf<'t>>,
 }
 
-fn kept_parts<'t>(tables: Vec<TableNo>, leaves: Vec<NamedLeaf<'t>>) -> KeptParts<'t>
+pub(crate) fn kept_parts<'t>(tables: Vec<TableNo>, leaves: Vec<NamedLeaf<'t>>) -> KeptParts<'t>
     ensures tables { result.tables ≡ tables.items }
     ensures leaves { result.leaves ≡ leaves.entry.items }
 {
@@ -41,49 +36,31 @@ fn kept_parts<'t>(tables: Vec<TableNo>, leaves: Vec<NamedLeaf<'t>>) -> KeptParts
     }
 }
 
-// The children of a level that the condition keeps.
-fn kept_children<L: Ledger>(
-    alloc: Global,
-    item: u32,
-    cond: &Cond,
-    level: &Level,
-    set: &BoundSet<ValueKey>,
-    blank: Blank,
-) -> Result<KeptSet, NoMemory>
-    requires small { length set.now ≤ 1024 }
-    requires level { All (IsOfLevel level.now) set.now }
-    requires name { blank.name ≡ L.name }
-    requires parts { blank.parts ≡ L.parts }
-    requires some { 0 < blank.parts }
-    ensures { IfOk result (λ kept. AreBits (length set.now) kept (λ k. kept_one.kept (asked item level.now) set.now [] (cond_tree cond.now) (slice_index_or set.now k ByDefault))) }
+/// The pruning steps of a condition over the columns of the FROM item.
+pub(crate) fn steps_of(alloc: Global, cond: &Cond, item: u32) -> Result<Vec<Pruning>, NoMemory>
+    ensures { IfOk result (λ ps. AreStepsOf ps.items item (cond_tree cond.now ∷ [])) }
 {
-    let mut steps = Steps::<L>::new(blank);
-    let asked = make_steps(alloc, cond, &[], item, level)?;
-    Ok(run_steps(&asked, set, &mut steps))
+    let mut steps = Vec::new(alloc);
+    steps.push(Pruning::new(alloc, cond, item)?)?;
+    Ok(steps)
 }
 
-// Those that each of the conditions keeps; all of them where nothing is pruned.
-fn kept_of(
-    alloc: Global,
-    prunes: bool,
-    item: u32,
-    conds: &[Cond],
-    level: &Level,
-    set: &BoundSet<ValueKey>,
-) -> Result<KeptSet, NoMemory>
-    requires small { length set.now ≤ 1024 }
-    requires level { All (IsOfLevel level.now) set.now }
-    ensures { IfOk result (λ kept. AreKept kept (keeps_for prunes item (map cond_tree conds.now) level.now set.now) set.now) }
+/// They are asked where the session prunes.
+pub(crate) fn steps_for(prunes: bool, steps: &[Pruning]) -> &[Pruning]
+    ensures { result.now ≡ (if prunes then steps.now else []) }
 {
-    let mut kept = KeptSet::all();
-    if !prunes {
-        return Ok(kept);
-    }
+    if prunes { steps } else { &[] }
+}
+
+// Those of each of the conditions.
+fn all_steps_of(alloc: Global, conds: &[Cond], item: u32) -> Result<Vec<Pruning>, NoMemory>
+    ensures { IfOk result (λ ps. AreStepsOf ps.items item (map cond_tree conds.now)) }
+{
+    let mut all = Vec::new(alloc);
     for cond in conds {
-        let own = kept_children::<Brand>(alloc, item, cond, level, set, Blank::new(1))?;
-        kept.meet(&own);
+        all.push(Pruning::new(alloc, cond, item)?)?;
     }
-    Ok(kept)
+    Ok(all)
 }
 
 // Puts the kept leaves of a tree behind the one list, and the tables below it that lead to them behind the
@@ -91,16 +68,14 @@ fn kept_of(
 #[cycle(pruning)]
 fn push_below<'t>(
     alloc: Global,
-    prunes: bool,
-    item: u32,
-    conds: &[Cond],
+    steps: &[Pruning],
     tree: &'t Tree,
     tables: &mut Vec<TableNo>,
     leaves: &mut Vec<NamedLeaf<'t>>,
 ) -> Result<(), NoMemory>
     requires { CanPrune (seen tree.now) }
-    ensures tables { OnOk result (tables.new.items ≡ tables.old.items ++ kept_spec.kept_tables (keeps_for prunes item (map cond_tree conds.now)) (seen tree.now)) }
-    ensures leaves { OnOk result (leaves.new.items ≡ leaves.old.items ++ leaves_below (keeps_for prunes item (map cond_tree conds.now)) (seen tree.now)) }
+    ensures tables { OnOk result (tables.new.items ≡ tables.old.items ++ kept_spec.kept_tables (keeps_alone steps.now) (seen tree.now)) }
+    ensures leaves { OnOk result (leaves.new.items ≡ leaves.old.items ++ leaves_below (keeps_alone steps.now) (seen tree.now)) }
 {
     match &tree.shape {
         Shape::Leaf(leaf) => {
@@ -111,13 +86,13 @@ fn push_below<'t>(
             Ok(())
         }
         Shape::Level(level, set, children) => {
-            let kept = kept_of(alloc, prunes, item, conds, level, set)?;
+            let kept = kept_alone(steps, level, set);
             let mut from = 0;
             while let Some(k) = kept.first_from(from) {
                 if k >= children.len() {
                     break;
                 }
-                push_led(alloc, prunes, item, conds, children.at(k), tables, leaves)?;
+                push_led(alloc, steps, children.at(k), tables, leaves)?;
                 from = k + 1;
             }
             Ok(())
@@ -130,17 +105,15 @@ fn push_below<'t>(
 #[cycle(pruning)]
 fn push_led<'t>(
     alloc: Global,
-    prunes: bool,
-    item: u32,
-    conds: &[Cond],
+    steps: &[Pruning],
     tree: &'t Tree,
     tables: &mut Vec<TableNo>,
     leaves: &mut Vec<NamedLeaf<'t>>,
 ) -> Result<(), NoMemory>
     requires { CanPrune (seen tree.now) }
-    ensures tables { OnOk result (tables.new.items ≡ tables.old.items ++ led (leaves_below (keeps_for prunes item (map cond_tree conds.now)) (seen tree.now)) (node_of (seen tree.now)).table
-        (kept_spec.kept_tables (keeps_for prunes item (map cond_tree conds.now)) (seen tree.now))) }
-    ensures leaves { OnOk result (leaves.new.items ≡ leaves.old.items ++ leaves_below (keeps_for prunes item (map cond_tree conds.now)) (seen tree.now)) }
+    ensures tables { OnOk result (tables.new.items ≡ tables.old.items ++ led (leaves_below (keeps_alone steps.now) (seen tree.now)) (node_of (seen tree.now)).table
+        (kept_spec.kept_tables (keeps_alone steps.now) (seen tree.now))) }
+    ensures leaves { OnOk result (leaves.new.items ≡ leaves.old.items ++ leaves_below (keeps_alone steps.now) (seen tree.now)) }
 {
     if let Shape::Leaf(leaf) = &tree.shape {
         tables.push(tree.node.table)?;
@@ -153,26 +126,96 @@ fn push_led<'t>(
     let before = tables.len();
     let count = leaves.len();
     tables.push(tree.node.table)?;
-    push_below(alloc, prunes, item, conds, tree, tables, leaves)?;
+    push_below(alloc, steps, tree, tables, leaves)?;
     if leaves.len() == count {
         tables.truncate(before);
     }
     Ok(())
 }
 
-// Whether a plain table is kept.
-fn is_plain_kept(alloc: Global, prunes: bool, item: u32, conds: &[Cond]) -> Result<bool, NoMemory>
-    ensures { IfOk result (λ b. b ≡ keeps_plain (keeps_for prunes item (map cond_tree conds.now))) }
+// The leaves that all of the steps keep, where nothing is known, of a table that is kept, and the tables that lead to them.
+fn prune_kept<'t>(
+    alloc: Global,
+    steps: &[Pruning],
+    tree: &'t Tree,
+) -> Result<KeptParts<'t>, NoMemory>
+    requires { CanPrune (seen tree.now) }
+    ensures tables { IfOk result (λ k. k.tables ≡ kept_spec.kept_tables (keeps_alone steps.now) (seen tree.now)) }
+    ensures leaves { IfOk result (λ k. k.leaves ≡ leaves_below (keeps_alone steps.now) (seen tree.now)) }
 {
-    let level = Level {
-        strategy: Strategy::Range,
-        columns: KeyColumns::new(alloc),
-    };
-    let mut bounds = Vec::new(alloc);
-    bounds.push(Bound::Default)?;
-    let set = make_set(alloc, bounds, ValueKey)?;
-    let kept = kept_of(alloc, prunes, item, conds, &level, &set)?;
-    Ok(kept.keeps(0))
+    let mut tables = Vec::new(alloc);
+    let mut leaves = Vec::new(alloc);
+    push_below(alloc, steps, tree, &mut tables, &mut leaves)?;
+    Ok(kept_parts(tables, leaves))
+}
+
+/// The leaves of the tree of a FROM item that all of the steps keep, where nothing is known, and the tables under it that
+/// lead to them. A plain table has its own bounds.
+pub(crate) fn prune_by<'t>(
+    alloc: Global,
+    steps: &[Pruning],
+    plain: &Option<PlainSet>,
+    tree: &'t Tree,
+) -> Result<KeptParts<'t>, NoMemory>
+    requires can { CanPrune (seen tree.now) }
+    requires plain { is_plain (seen tree.now) ≡ is_some plain.now }
+    ensures tables { IfOk result (λ k. k.tables ≡ kept_spec.kept_tables (keeps_alone steps.now) (seen tree.now)) }
+    ensures leaves { IfOk result (λ k. k.leaves ≡ kept_spec.kept_leaves (keeps_alone steps.now) (seen tree.now)) }
+{
+    match plain {
+        None => prune_kept(alloc, steps, tree),
+        Some(plain) => {
+            let nothing = Binding::new(&[]);
+            if !is_plain_kept(alloc, steps, Asks::Alone, &nothing, plain) {
+                return Ok(kept_parts(Vec::new(alloc), Vec::new(alloc)));
+            }
+            prune_kept(alloc, steps, tree)
+        }
+    }
+}
+
+// Those of a partition, where it is kept.
+fn prune_child<'t>(
+    alloc: Global,
+    is_kept: bool,
+    steps: &[Pruning],
+    child: &'t Tree,
+) -> Result<KeptParts<'t>, NoMemory>
+    requires { CanPrune (seen child.now) }
+    ensures tables { IfOk result (λ k. k.tables ≡ (if is_kept then led (leaves_below (keeps_alone steps.now) (seen child.now)) (node_of (seen child.now)).table
+        (kept_spec.kept_tables (keeps_alone steps.now) (seen child.now)) else [])) }
+    ensures leaves { IfOk result (λ k. k.leaves ≡ (if is_kept then leaves_below (keeps_alone steps.now) (seen child.now) else [])) }
+{
+    let mut tables = Vec::new(alloc);
+    let mut leaves = Vec::new(alloc);
+    if !is_kept {
+        return Ok(kept_parts(tables, leaves));
+    }
+    push_led(alloc, steps, child, &mut tables, &mut leaves)?;
+    Ok(kept_parts(tables, leaves))
+}
+
+/// The same of an item over each of the partitions alone.
+pub(crate) fn partitions_by<'t>(
+    alloc: Global,
+    steps: &[Pruning],
+    tree: &'t Tree,
+) -> Result<Vec<KeptParts<'t>>, NoMemory>
+    requires { CanPrune (seen tree.now) }
+    ensures tables { IfOk result (λ ks. map (λ k. k.tables) ks.items ≡ map (λ n. kept_spec.kept_tables (keeps_alone steps.now) (in_partition n (seen tree.now))) (partitions (seen tree.now))) }
+    ensures leaves { IfOk result (λ ks. map (λ k. k.leaves) ks.items ≡ map (λ n. kept_spec.kept_leaves (keeps_alone steps.now) (in_partition n (seen tree.now))) (partitions (seen tree.now))) }
+{
+    match &tree.shape {
+        Shape::Leaf(_) => Ok(Vec::new(alloc)),
+        Shape::Level(level, set, children) => {
+            let kept = kept_alone(steps, level, set);
+            let mut parts = Vec::new(alloc);
+            for (k, child) in children.as_slice().iter().enumerate() {
+                parts.push(prune_child(alloc, kept.keeps(k), steps, child)?)?;
+            }
+            Ok(parts)
+        }
+    }
 }
 
 /// The leaves of the tree of a FROM item that each of the conditions keeps, and the tables under it that lead
@@ -188,113 +231,12 @@ pub fn prune_item<'t>(
     ensures tables { IfOk result (λ k. k.tables ≡ kept_spec.kept_tables (keeps_for prunes item (map cond_tree conds.now)) (seen tree.now)) }
     ensures leaves { IfOk result (λ k. k.leaves ≡ kept_spec.kept_leaves (keeps_for prunes item (map cond_tree conds.now)) (seen tree.now)) }
 {
-    let mut tables = Vec::new(alloc);
-    let mut leaves = Vec::new(alloc);
-    let is_plain = matches!(&tree.shape, Shape::Leaf(_));
-    if is_plain && !is_plain_kept(alloc, prunes, item, conds)? {
-        return Ok(kept_parts(tables, leaves));
+    let plain = plain_of(alloc, tree)?;
+    if !prunes {
+        return prune_by(alloc, &[], &plain, tree);
     }
-    push_below(alloc, prunes, item, conds, tree, &mut tables, &mut leaves)?;
-    Ok(kept_parts(tables, leaves))
-}
-
-// Those of a partition, where it is kept.
-fn prune_child<'t>(
-    alloc: Global,
-    is_kept: bool,
-    prunes: bool,
-    item: u32,
-    conds: &[Cond],
-    child: &'t Tree,
-) -> Result<KeptParts<'t>, NoMemory>
-    requires { CanPrune (seen child.now) }
-    ensures tables { IfOk result (λ k. k.tables ≡ (if is_kept then led (leaves_below (keeps_for prunes item (map cond_tree conds.now)) (seen child.now)) (node_of (seen child.now)).table
-        (kept_spec.kept_tables (keeps_for prunes item (map cond_tree conds.now)) (seen child.now)) else [])) }
-    ensures leaves { IfOk result (λ k. k.leaves ≡ (if is_kept then leaves_below (keeps_for prunes item (map cond_tree conds.now)) (seen child.now) else [])) }
-{
-    let mut tables = Vec::new(alloc);
-    let mut leaves = Vec::new(alloc);
-    if !is_kept {
-        return Ok(kept_parts(tables, leaves));
-    }
-    push_led(alloc, prunes, item, conds, child, &mut tables, &mut leaves)?;
-    Ok(kept_parts(tables, leaves))
-}
-
-// Those of one partition alone.
-fn prune_partition<'t>(
-    alloc: Global,
-    prunes: bool,
-    item: u32,
-    conds: &[Cond],
-    tree: &'t Tree,
-    part: usize,
-) -> Result<KeptParts<'t>, NoMemory>
-    requires { CanPrune (in_partition part (seen tree.now)) }
-    ensures tables { IfOk result (λ k. k.tables ≡ kept_spec.kept_tables (keeps_for prunes item (map cond_tree conds.now)) (in_partition part (seen tree.now))) }
-    ensures leaves { IfOk result (λ k. k.leaves ≡ kept_spec.kept_leaves (keeps_for prunes item (map cond_tree conds.now)) (in_partition part (seen tree.now))) }
-{
-    match &tree.shape {
-        Shape::Leaf(_) => prune_item(alloc, prunes, item, conds, tree),
-        Shape::Level(level, set, children) => {
-            if part >= children.len() {
-                return Ok(kept_parts(Vec::new(alloc), Vec::new(alloc)));
-            }
-            let kept = kept_of(alloc, prunes, item, conds, level, set)?;
-            prune_child(
-                alloc,
-                kept.keeps(part),
-                prunes,
-                item,
-                conds,
-                children.at(part),
-            )
-        }
-    }
-}
-
-/// The same of an item over each of the partitions alone.
-pub(crate) fn prune_partitions<'t>(
-    alloc: Global,
-    prunes: bool,
-    item: u32,
-    conds: &[Cond],
-    tree: &'t Tree,
-) -> Result<Vec<KeptParts<'t>>, NoMemory>
-    requires { CanPrune (seen tree.now) }
-    ensures tables { IfOk result (λ ks. map (λ k. k.tables) ks.items ≡ map (λ n. kept_spec.kept_tables (keeps_for prunes item (map cond_tree conds.now)) (in_partition n (seen tree.now))) (partitions (seen tree.now))) }
-    ensures leaves { IfOk result (λ ks. map (λ k. k.leaves) ks.items ≡ map (λ n. kept_spec.kept_leaves (keeps_for prunes item (map cond_tree conds.now)) (in_partition n (seen tree.now))) (partitions (seen tree.now))) }
-{
-    match &tree.shape {
-        Shape::Leaf(_) => Ok(Vec::new(alloc)),
-        Shape::Level(level, set, children) => {
-            let kept = kept_of(alloc, prunes, item, conds, level, set)?;
-            let mut parts = Vec::new(alloc);
-            for (k, child) in children.as_slice().iter().enumerate() {
-                parts.push(prune_child(alloc, kept.keeps(k), prunes, item, conds, child)?)?;
-            }
-            Ok(parts)
-        }
-    }
-}
-
-/// The same of an item over the whole table, or over one of its partitions.
-pub(crate) fn prune_part<'t>(
-    alloc: Global,
-    prunes: bool,
-    item: u32,
-    conds: &[Cond],
-    tree: &'t Tree,
-    part: Option<usize>,
-) -> Result<KeptParts<'t>, NoMemory>
-    requires { CanPrune (in_part part (seen tree.now)) }
-    ensures tables { IfOk result (λ k. k.tables ≡ kept_spec.kept_tables (keeps_for prunes item (map cond_tree conds.now)) (in_part part (seen tree.now))) }
-    ensures leaves { IfOk result (λ k. k.leaves ≡ kept_spec.kept_leaves (keeps_for prunes item (map cond_tree conds.now)) (in_part part (seen tree.now))) }
-{
-    match part {
-        None => prune_item(alloc, prunes, item, conds, tree),
-        Some(part) => prune_partition(alloc, prunes, item, conds, tree, part),
-    }
+    let steps = all_steps_of(alloc, conds, item)?;
+    prune_by(alloc, &steps, &plain, tree)
 }
 
 /// The same by one condition, of the only FROM item.
@@ -308,7 +250,7 @@ pub fn prune_tree<'t>(
     ensures tables { IfOk result (λ k. k.tables ≡ kept_spec.kept_tables (keeps_by prunes (cond_tree cond.now)) (seen tree.now)) }
     ensures leaves { IfOk result (λ k. k.leaves ≡ kept_spec.kept_leaves (keeps_by prunes (cond_tree cond.now)) (seen tree.now)) }
 {
-    let mut conds = Vec::new(alloc);
-    conds.push(copy_cond(alloc, cond)?)?;
-    prune_item(alloc, prunes, 0, &conds, tree)
+    let steps = steps_of(alloc, cond, 0)?;
+    let plain = plain_of(alloc, tree)?;
+    prune_by(alloc, steps_for(prunes, &steps), &plain, tree)
 }

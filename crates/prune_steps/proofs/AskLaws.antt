@@ -1,5 +1,5 @@
 -- The bounds of a level can be asked for values that can be compared with its key columns.
-use Rattle.std.proofs.Common.{◌≡◌, ℕ, ◌+◌, ◌<◌, ◌≤◌, true, false, List, [], ◌∷◌, ◌++◌, length, get_or, refl, sym, ◌∙◌, arith}
+use Rattle.std.proofs.Common.{◌≡◌, ℕ, ◌+◌, ◌<◌, ◌≤◌, true, false, List, [], ◌∷◌, ◌++◌, length, get_or, refl, arith}
 use Rattle.std.specs.Prelude.{slice_get}
 use Rattle.std.specs.List.{All}
 use Rattle.pg_values.specs.declared.value.Kind.{Kind}
@@ -21,13 +21,11 @@ use Rattle.bound_forms.specs.Accepts.{FitsBound}
 use Rattle.part_bounds.specs.Stored.{stored, width, FitsEnd}
 use Rattle.part_bounds.specs.Laws.{AreForColumns}
 use Rattle.part_bounds.proofs.LevelStored.{at_strategy, ends_fit, has_strategy, points_wide, ranges_fit}
-use Rattle.prune_steps.specs.declared.step.ChainOp.{ChainOp}
-use Rattle.prune_steps.specs.declared.step.ChainOp.TheVariants.{Eq as ChainEq, Lt as ChainLt, Le as ChainLe, Gt as ChainGt, Ge as ChainGe}
-use Rattle.prune_steps.specs.declared.step.ChainStep.{ChainStep}
-use Rattle.prune_steps.specs.declared.step.ListStep.{ListStep}
+use Rattle.prune_steps.specs.declared.chain.ChainOp.{ChainOp}
+use Rattle.prune_steps.specs.declared.chain.ChainOp.TheVariants.{Eq as ChainEq, Lt as ChainLt, Le as ChainLe, Gt as ChainGt, Ge as ChainGe}
+use Rattle.prune_steps.specs.AskedBy.{AskedByRange, AskedByList, AskedByHash}
 use Rattle.prune_steps.specs.Atoms.{compares_with, suits}
 use Rattle.prune_steps.specs.Runs.{from_count, from_fill, to_count, to_fill}
-use Rattle.prune_steps.specs.Steps.{AskedByRange, AskedByList, AskedByHash}
 
 -- ---- kinds
 
@@ -108,34 +106,34 @@ for_column (c ∷ columns) v h = (some_with c.kind v h, (λ w n m e. compares w 
 
 -- ---- by range
 
-pub asks_range : (level : Level) (bounds : List Bound) (c : ChainStep) → level.strategy ≡ ByRange → All (IsOfLevel level) bounds → c.edges ≡ length level.columns + 1 → 0 < length c.values → Suit level.columns c.values
-    → AskedByRange bounds c
-asks_range level bounds c is all edges some suit = record {
+pub asks_range : (level : Level) (bounds : List Bound) (op : ChainOp) (values : List Value) → level.strategy ≡ ByRange → All (IsOfLevel level) bounds → 0 < length values → Suit level.columns values
+    → AskedByRange bounds op (length level.columns + 1) values
+asks_range level bounds op values is all some suit = record {
   ranges = (has_strategy level bounds all).range is;
   fit = ranges_fit level bounds all;
-  edges = λ more. wide more ∙ sym edges;
+  edges = wide;
   ends = record {
     some = some;
-    few = λ more. let w = wide more in let l = suit_long level.columns c.values suit in omega (arith, w, l);
-    start = fits (from_count c.op (length c.values)) (from_fill c.op) (from_le c.op);
-    end = fits (to_count c.op (length c.values)) (to_fill c.op) (to_le c.op);
+    few = λ more. let w = wide more in let l = suit_long level.columns values suit in omega (arith, w, l);
+    start = fits (from_count op (length values)) (from_fill op) (from_le op);
+    end = fits (to_count op (length values)) (to_fill op) (to_le op);
   };
 }
   where
     wide : 0 < length (stored bounds) → width bounds ≡ length level.columns + 1
     wide more = points_wide level bounds all 0 [] more
 
-    fits : (n : ℕ) (fill : Fill) → n ≤ length c.values → FitsEnd bounds n fill c.values
-    fits n fill le = ends_fit level bounds n fill c.values all (for_columns level.columns c.values suit) le
+    fits : (n : ℕ) (fill : Fill) → n ≤ length values → FitsEnd bounds n fill values
+    fits n fill le = ends_fit level bounds n fill values all (for_columns level.columns values suit) le
 
-    from_le : (op : ChainOp) → from_count op (length c.values) ≤ length c.values
+    from_le : (o : ChainOp) → from_count o (length values) ≤ length values
     from_le ChainEq = omega arith
     from_le ChainLt = omega arith
     from_le ChainLe = omega arith
     from_le ChainGt = omega arith
     from_le ChainGe = omega arith
 
-    to_le : (op : ChainOp) → to_count op (length c.values) ≤ length c.values
+    to_le : (o : ChainOp) → to_count o (length values) ≤ length values
     to_le ChainEq = omega arith
     to_le ChainLt = omega arith
     to_le ChainLe = omega arith
@@ -144,10 +142,10 @@ asks_range level bounds c is all edges some suit = record {
 
 -- ---- by list
 
-pub asks_list : (level : Level) (bounds : List Bound) (c : ListStep) (v : Value) → level.strategy ≡ ByList → All (IsOfLevel level) bounds → c.value ≡ v ∷ [] → suits (slice_get level.columns 0) v ≡ true → AskedByList bounds c
-asks_list level bounds c v is all one s = record {
+pub asks_list : (level : Level) (bounds : List Bound) (v : Value) → level.strategy ≡ ByList → All (IsOfLevel level) bounds → suits (slice_get level.columns 0) v ≡ true → AskedByList bounds (v ∷ [])
+asks_list level bounds v is all s = record {
   lists = (has_strategy level bounds all).list is;
-  value = rw one (record { single = refl; two = wide; fits = fits });
+  value = record { single = refl; two = wide; fits = fits };
 }
   where
     wide : 0 < length (stored bounds) → width bounds ≡ 2

@@ -1,17 +1,16 @@
--- Conditions and their trees: how much is left, part by part, and what a list of one condition gives.
-use Rattle.std.proofs.Common.{◌≡◌, ℕ, zero, suc, ◌+◌, ◌<◌, ◌≤◌, Bool, true, false, List, [], ◌∷◌, ◌++◌, map, take, length, drop, get_or, add-one, drop-cons, refl, sym, ap, ◌∙◌, arith, subst, if◌then◌else◌}
-use Rattle.std.specs.Prelude.{Option, Some, None}
-use Rattle.pg_values.specs.declared.value.Value.{Value}
+-- Conditions and their trees: how much is left, part by part.
+use Rattle.std.proofs.Common.{Box, Global, ◌≡◌, ℕ, zero, suc, ◌+◌, ◌<◌, ◌≤◌, true, false, List, [], ◌∷◌, map, length, drop, get_or, add-one, drop-cons, refl, sym, ap, ◌∙◌, arith}
+use Rattle.cond_logic.specs.declared.cond.CompareOp.{CompareOp}
 use Rattle.cond_logic.specs.declared.cond.Cond.{Cond}
 use Rattle.cond_logic.specs.declared.cond.CondList.{CondList}
-use Rattle.cond_logic.specs.declared.cond.Cond.TheViews.{And, Or, outs-And, outs-Or}
-use Rattle.cond_logic.specs.declared.cond.Cond.TheFolds.{fold_out-Cond}
+use Rattle.cond_logic.specs.declared.cond.Cond.TheFolds.{fold_out-Cond, fold-roll-Cond}
+use Rattle.cond_logic.specs.declared.cond.Cond.TheOpen.{Not as not-F}
+use Rattle.cond_logic.specs.declared.cond.Cond.TheVariants.{Compare, IsNull, Not, Const, rolls-Not}
+use Rattle.cond_logic.specs.declared.cond.Cond.TheViews.{And, Or, out-Cond, outs-And, outs-Or}
+use Rattle.cond_logic.specs.declared.cond.Operand.{Operand}
+use Rattle.cond_logic.specs.declared.truth.Truth3.{Truth3}
 use Rattle.cond_logic.specs.Trees.{CondTree, CondTrees, no_more, and_more, all_of, any_of, inverted, compares, null_test, known, listed, level, list_level, cond_tree, cond_trees}
-use Rattle.prune_steps.specs.declared.step.Step.{Step}
-use Rattle.prune_steps.specs.Atoms.{Asked, is_one, given, first_given, first_of}
-use Rattle.prune_steps.specs.Kept.{parts_keep, choices_keep}
-use Rattle.prune_steps.specs.Made.{IsStepFor, IsPart}
-use Rattle.prune_steps.specs.Steps.{comparison_counts}
+use Rattle.prune_steps.specs.Atoms.{is_one}
 
 abbrev mutual
   pub weight : CondTree → ℕ
@@ -57,61 +56,29 @@ or_less cond l xs is at = sym (ap weight (of_or cond l xs is at))
 
 -- ---- one condition, or several
 
-one_is : (xs : List Cond) → length xs ≡ 1 → is_one (listed (map cond_tree xs)) ≡ true
+pub one_is : (xs : List Cond) → length xs ≡ 1 → is_one (listed (map cond_tree xs)) ≡ true
 one_is [] h = absurd (omega (arith, h))
 one_is (x ∷ []) h = refl
 one_is (x ∷ (y ∷ xs)) h = absurd (omega (arith, h))
 
-not_one : (xs : List Cond) → (length xs ≡ 1 → ⊥) → is_one (listed (map cond_tree xs)) ≡ false
+pub not_one : (xs : List Cond) → (length xs ≡ 1 → ⊥) → is_one (listed (map cond_tree xs)) ≡ false
 not_one [] h = refl
 not_one (x ∷ []) h = absurd (h refl)
 not_one (x ∷ (y ∷ xs)) h = refl
 
-pub given_one : (a : Asked) (nulls : Bool) (j : ℕ) (cond : Cond) (l : CondList) (xs : List Cond) → cond ≡ Or l → listed (map cond_tree xs) ≡ cond_trees l → length xs ≡ 1
-    → first_given a nulls (listed (map cond_tree xs)) j ≡ given a nulls (cond_tree cond) j
-given_one a nulls j cond l xs is at one =
-    let ts = listed (map cond_tree xs) in
-    sym (ap (λ t. given a nulls t j) (of_or cond l xs is at) ∙ ap (λ (b : Bool). if b then first_given a nulls ts j else None) (one_is xs one))
+-- ---- conditions without parts
 
-pub given_many : (a : Asked) (nulls : Bool) (j : ℕ) (cond : Cond) (l : CondList) (xs : List Cond) → cond ≡ Or l → listed (map cond_tree xs) ≡ cond_trees l → (length xs ≡ 1 → ⊥)
-    → None ≡ given a nulls (cond_tree cond) j
-given_many a nulls j cond l xs is at many =
-    let ts = listed (map cond_tree xs) in
-    sym (ap (λ t. given a nulls t j) (of_or cond l xs is at) ∙ ap (λ (b : Bool). if b then first_given a nulls ts j else None) (not_one xs many))
+pub compares_is : (op : CompareOp) (x y : Operand) → cond_tree (Compare op x y) ≡ compares op x y
+unfolding out-Cond denote.Hole.Carrier.out
+compares_is op x y = fold_out-Cond CondTree CondTrees level list_level (Compare op x y)
 
--- one part more, which gives nothing, or is the first that gives
-pub none_given : (a : Asked) (nulls : Bool) (j : ℕ) (parts : List Cond) (i : ℕ) (x : Cond) → i < length parts → x ≡ get_or parts i x → None ≡ given a nulls (cond_tree x) j
-    → first_given a nulls (listed (map cond_tree (drop i parts))) j ≡ first_given a nulls (listed (map cond_tree (drop (i + 1) parts))) j
-none_given a nulls j parts i x lt at none =
-    let rest = listed (map cond_tree (drop (i + 1) parts)) in
-    ap (λ ts. first_given a nulls ts j) (parts_step parts i x lt at) ∙ ap (λ o. first_of o (first_given a nulls rest j)) (sym none)
+pub null_is : (x : Operand) → cond_tree (IsNull x) ≡ null_test x
+unfolding out-Cond denote.Hole.Carrier.out
+null_is x = fold_out-Cond CondTree CondTrees level list_level (IsNull x)
 
-pub some_given : (a : Asked) (nulls : Bool) (j : ℕ) (parts : List Cond) (i : ℕ) (x : Cond) (v : Value) → i < length parts → x ≡ get_or parts i x → Some v ≡ given a nulls (cond_tree x) j
-    → Some v ≡ first_given a nulls (listed (map cond_tree (drop i parts))) j
-some_given a nulls j parts i x v lt at some =
-    let rest = listed (map cond_tree (drop (i + 1) parts)) in
-    sym (ap (λ ts. first_given a nulls ts j) (parts_step parts i x lt at) ∙ ap (λ o. first_of o (first_given a nulls rest j)) (sym some))
+pub const_is : (t : Truth3) → cond_tree (Const t) ≡ known t
+unfolding out-Cond denote.Hole.Carrier.out
+const_is t = fold_out-Cond CondTree CondTrees level list_level (Const t)
 
--- ---- the step of an OR
-
-part_of_one : (a : Asked) (root : CondTree) (ts : CondTrees) (s : Step) → is_one ts ≡ true → IsStepFor s a (λ bounds b. parts_keep a bounds (given a false root) ts b) (comparison_counts a ts) → IsPart a root (any_of ts) s
-part_of_one a root no_more s e h = cc
-part_of_one a root (and_more t no_more) s e h = h
-part_of_one a root (and_more t (and_more u ts)) s e h = cc
-
-part_of_many : (a : Asked) (root : CondTree) (ts : CondTrees) (s : Step) → is_one ts ≡ false → IsStepFor s a (λ bounds b. choices_keep a bounds ts b) (comparison_counts a ts) → IsPart a root (any_of ts) s
-part_of_many a root no_more s e h = h
-part_of_many a root (and_more t no_more) s e h = cc
-part_of_many a root (and_more t (and_more u ts)) s e h = h
-
-pub one_choice : (a : Asked) (root : CondTree) (cond : Cond) (l : CondList) (xs : List Cond) (s : Step) → cond ≡ Or l → listed (map cond_tree xs) ≡ cond_trees l → length xs ≡ 1
-    → IsStepFor s a (λ bounds b. parts_keep a bounds (given a false root) (listed (map cond_tree xs)) b) (comparison_counts a (listed (map cond_tree xs))) → IsPart a root (cond_tree cond) s
-one_choice a root cond l xs s is at one h = subst (λ t. IsPart a root t s) (sym (of_or cond l xs is at)) (part_of_one a root (listed (map cond_tree xs)) s (one_is xs one) h)
-
-pub many_choices : (a : Asked) (root : CondTree) (cond : Cond) (l : CondList) (xs : List Cond) (s : Step) → cond ≡ Or l → listed (map cond_tree xs) ≡ cond_trees l → (length xs ≡ 1 → ⊥)
-    → IsStepFor s a (λ bounds b. choices_keep a bounds (listed (map cond_tree xs)) b) (comparison_counts a (listed (map cond_tree xs))) → IsPart a root (cond_tree cond) s
-many_choices a root cond l xs s is at many h = subst (λ t. IsPart a root t s) (sym (of_or cond l xs is at)) (part_of_many a root (listed (map cond_tree xs)) s (not_one xs many) h)
-
-pub all_parts : (a : Asked) (root : CondTree) (cond : Cond) (l : CondList) (xs : List Cond) (s : Step) → cond ≡ And l → listed (map cond_tree xs) ≡ cond_trees l
-    → IsStepFor s a (λ bounds b. parts_keep a bounds (given a false root) (listed (map cond_tree xs)) b) (comparison_counts a (listed (map cond_tree xs))) → IsPart a root (cond_tree cond) s
-all_parts a root cond l xs s is at h = subst (λ t. IsPart a root t s) (sym (of_and cond l xs is at)) h
+pub not_is : (c : Box Cond Global) → cond_tree (Not c) ≡ inverted (cond_tree c.value)
+not_is c = ap cond_tree (sym (rolls-Not c)) ∙ fold-roll-Cond CondTree CondTrees level list_level (not-F c)

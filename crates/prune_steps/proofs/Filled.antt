@@ -10,8 +10,8 @@ use Rattle.bound_forms.specs.declared.point.Fill.{Fill}
 use Rattle.bound_forms.specs.declared.point.Fill.TheVariants.{Min, Max}
 use Rattle.bound_forms.specs.Bounds.{is_below}
 use Rattle.bound_forms.specs.Points.{end_of}
-use Rattle.prune_steps.specs.declared.step.ChainOp.{ChainOp}
-use Rattle.prune_steps.specs.declared.step.ChainOp.TheVariants.{Eq, Lt, Le, Gt, Ge}
+use Rattle.prune_steps.specs.declared.chain.ChainOp.{ChainOp}
+use Rattle.prune_steps.specs.declared.chain.ChainOp.TheVariants.{Eq, Lt, Le, Gt, Ge}
 use Rattle.prune_steps.specs.Runs.{ends_of}
 
 same : (v : Value) → order v v ≡ Equal

@@ -38,9 +38,7 @@ use Rattle.cond_logic.specs.Tuples.{Places, place, put, value_in, value_of}
 use Rattle.cond_logic.specs.Trees.{CondTree, CondTrees, no_more, and_more, all_of, any_of, inverted, compares, null_test, known}
 use Rattle.cond_logic.specs.Truths as truths
 use Rattle.cond_logic.specs.Truths.{truth, least_of, greatest_of, least, greatest, opposite, compared, decided, passes_by}
-use Rattle.prune_steps.specs.declared.reading.Reading.{Reading}
-use Rattle.prune_steps.specs.declared.reading.Reading.TheVariants.{Never, Anything, On}
-use Rattle.prune_steps.specs.Atoms.{Asked, key_of, literal, known_null, suits, on_key, or_else, turned, reading, is_one, equal_on, null_on, first_of, given, first_given, added, values_before}
+use Rattle.prune_steps.specs.Atoms.{Asked, key_of, literal, known_null, suits, on_key, or_else, turned, reading, is_one, equal_on, null_on, first_of, given, first_given, added, values_before, Reading, Never, Anything, On}
 use Rattle.prune_steps.specs.Chains.{Chain, chain_of, chain_keeps, is_gap}
 use Rattle.prune_steps.specs.Kept.{by_chain, range_keeps, lists_passing, default_keeps, list_keeps, on_keeps, reading_keeps, null_keeps, not_null_keeps, inverted_keeps, is_not_no, key_keeps, full_key, part_keeps, parts_keep, choices_keep, whole_keeps}
 use Rattle.prune_steps.specs.Laws.{row_key}

@@ -1,6 +1,6 @@
 -- What the atoms of a condition say of the key columns of a level (5.11.4 Partition Pruning, 9.2 Comparison Functions
 -- and Operators).
-use Rattle.std.specs.Prelude.{ℕ, zero, suc, ◌==◌, Bool, true, false, ◌||◌, List, [], ◌∷◌, ◌++◌, Option, Some, None, position, slice_get, if◌then◌else◌}
+use Rattle.std.specs.Prelude.{◌≡◌, ℕ, zero, suc, ◌==◌, Bool, true, false, ◌||◌, List, [], ◌∷◌, ◌++◌, Option, Some, None, position, slice_get, if◌then◌else◌}
 use Rattle.pg_values.specs.declared.value.Kind.{Kind}
 use Rattle.pg_values.specs.declared.value.Kind.TheVariants.{Int4 as KInt4, Int8 as KInt8, Text as KText, Day as KDay, Truth as KTruth}
 use Rattle.pg_values.specs.declared.value.Value.{Value}
@@ -13,8 +13,6 @@ use Rattle.cond_logic.specs.declared.cond.Operand.{Operand}
 use Rattle.cond_logic.specs.declared.cond.Operand.TheVariants.{Column, Lit, Param}
 use Rattle.cond_logic.specs.Trees.{CondTree, CondTrees, no_more, and_more, all_of, any_of, inverted, compares, null_test, known}
 use Rattle.cond_logic.specs.Truths.{is_null}
-use Rattle.prune_steps.specs.declared.reading.Reading.{Reading}
-use Rattle.prune_steps.specs.declared.reading.Reading.TheVariants.{Never, Anything, On}
 
 -- a level, and the FROM item whose columns its key columns are
 pub record Asked : Type 0 where
@@ -58,6 +56,19 @@ suits None v = false
 suits (Some c) v = compares_with c.kind v
 
 -- ---- comparisons, read with the column on the left
+
+pub data Reading : Type 0 where
+  -- with null: never true
+  Never : Reading
+  -- it says nothing of a key column by itself
+  Anything : Reading
+  -- key column j against a known value that it can be compared with
+  On : (j : ℕ) → CompareOp → Value → Reading
+
+abbrev pub ReadingFits : List KeyColumn → Reading → Type 0
+ReadingFits columns (On j op v) = suits (slice_get columns j) v ≡ true
+ReadingFits columns Never = Unit {0}
+ReadingFits columns Anything = Unit {0}
 
 abbrev pub turned : CompareOp → CompareOp
 turned Eq = Eq

@@ -17,9 +17,7 @@ use Rattle.cond_logic.specs.declared.truth.Truth3.TheVariants.{Yes, No, Unknown}
 use Rattle.cond_logic.specs.Trees.{CondTree, CondTrees, no_more, and_more, all_of, any_of, inverted, compares, null_test, known}
 use Rattle.cond_logic.specs.Truths.{passes_by}
 use Rattle.cond_logic.specs.Rewriting.{pushed, with_args}
-use Rattle.prune_steps.specs.declared.reading.Reading.{Reading}
-use Rattle.prune_steps.specs.declared.reading.Reading.TheVariants.{Never, Anything, On}
-use Rattle.prune_steps.specs.Atoms.{Asked, asked, key_of, reading, is_one, given, values_before}
+use Rattle.prune_steps.specs.Atoms.{Asked, asked, key_of, reading, is_one, given, values_before, Reading, Never, Anything, On}
 use Rattle.prune_steps.specs.Chains.{Chain, chain_of, chain_keeps}
 
 -- ---- by range

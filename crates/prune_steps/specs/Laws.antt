@@ -8,10 +8,12 @@ use Rattle.bound_forms.specs.Levels.{IsOfLevel}
 use Rattle.bound_forms.specs.Points.{picked}
 use Rattle.cond_logic.specs.declared.truth.Truth3.TheVariants.{Yes}
 use Rattle.cond_logic.specs.Conjuncts.{conjuncts}
+use Rattle.cond_logic.specs.Rewriting.{pushed}
 use Rattle.cond_logic.specs.Trees.{CondTree, listed}
 use Rattle.cond_logic.specs.Truths.{truth}
 use Rattle.cond_logic.specs.Tuples.{Places, put}
 use Rattle.prune_steps.specs.Atoms.{Asked, given, first_given}
+use Rattle.prune_steps.specs.Beside.{beside}
 use Rattle.prune_steps.specs.Kept.{kept, part_keeps}
 
 -- the key of a row at the level
@@ -31,3 +33,8 @@ KeepsByConjuncts = (a : Asked) (bounds : List Bound) (first : ℕ → Option Val
 
 abbrev pub GivesByConjuncts : Type 0
 GivesByConjuncts = (a : Asked) (nulls : Bool) (t : CondTree) (j : ℕ) → given a nulls t j ≡ first_given a nulls (listed (conjuncts t)) j
+
+-- a condition keeps the same with NOT pushed inwards, with whatever arguments, and rows of the items before one, are known
+abbrev pub PushingKeepsAlike : Type 0
+PushingKeepsAlike = (a : Asked) (bounds : List Bound) (args : List Value) (before : ℕ) (rows : Places) (t : CondTree) (b : Bound)
+    → kept a bounds args (beside before rows (pushed t)) b ≡ kept a bounds args (beside before rows t) b

@@ -1,10 +1,13 @@
+pub mod AskedBy
+pub mod Asking
 pub mod Atoms
+pub mod Beside
 pub mod Bits
 pub mod Chains
 pub mod Kept
 pub mod Laws
 pub mod Lists
-pub mod Made
+pub mod Prunings
 pub mod Runs
-pub mod Steps
+pub mod Searches
 pub mod Tallies

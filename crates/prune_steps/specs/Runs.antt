@@ -1,5 +1,5 @@
 -- What a search finds of a chain: its two ends among the stored points.
-use Rattle.std.specs.Prelude.{◌≡◌, ◌<◌, ◌≤◌, ℕ, ◌-◌, Bool, true, false, List, length}
+use Rattle.std.specs.Prelude.{◌≡◌, ◌<◌, ◌≤◌, ℕ, ◌-◌, Bool, true, false, List, length, Option, Some, None}
 use Rattle.std.specs.List.{slice_index_or}
 use Rattle.pg_values.specs.declared.value.Value.{Value}
 use Rattle.bound_forms.specs.declared.partition_bound.Bound.{Bound}
@@ -9,9 +9,19 @@ use Rattle.bound_forms.specs.declared.point.Fill.TheVariants.{Min, Max}
 use Rattle.bound_forms.specs.Bounds.{is_below}
 use Rattle.part_bounds.specs.Stored.{stored, range_points, in_sibling, upper_of, passes, width, FitsEnd, Splits}
 use Rattle.bound_forms.specs.Points.{end_of}
-use Rattle.prune_steps.specs.declared.step.ChainOp.{ChainOp}
-use Rattle.prune_steps.specs.declared.step.ChainOp.TheVariants.{Lt, Le, Gt, Ge}
+use Rattle.cond_logic.specs.declared.cond.CompareOp.{CompareOp}
+use Rattle.cond_logic.specs.declared.cond.CompareOp.TheVariants.{Eq as EqBy, Ne as NeBy, Lt as LtBy, Le as LeBy, Gt as GtBy, Ge as GeBy}
+use Rattle.prune_steps.specs.declared.chain.ChainOp.{ChainOp}
+use Rattle.prune_steps.specs.declared.chain.ChainOp.TheVariants.{Eq, Lt, Le, Gt, Ge}
 use Rattle.prune_steps.specs.Chains.{Chain}
+
+abbrev pub chain_op : CompareOp → Option ChainOp
+chain_op EqBy = Some Eq
+chain_op NeBy = None
+chain_op LtBy = Some Lt
+chain_op LeBy = Some Le
+chain_op GtBy = Some Gt
+chain_op GeBy = Some Ge
 
 -- an end of the chain: of the values v1 .. vj all, or all but the last, and what fills it up
 abbrev pub from_count : ChainOp → ℕ → ℕ

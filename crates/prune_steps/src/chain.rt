@@ -5,15 +5,40 @@ ghost use Rattle.bound_forms.specs.declared.partition_bound.Bound.TheVariants.{D
 ghost use Rattle.part_bounds.specs.Stored.{stored, width, IsRangeLevel, RangesFit};
 ghost use Rattle.prune_steps.specs.Bits.{AreBits};
 ghost use Rattle.prune_steps.specs.Chains.{chain_keeps, Chain};
+ghost use Rattle.prune_steps.specs.Runs as runs;
 ghost use Rattle.prune_steps.specs.Runs.{ends_of, from_count, from_fill, to_count, to_fill, CanAsk, Ends, GapIn, NoGapIn};
 
 use crate::KeptSet;
 use crate::marks::add_default;
-use crate::step::ChainOp;
 use bound_forms::{Fill, Key};
+use cond_logic::CompareOp;
 use part_bounds::{BoundSet, points_below, ranges_stand_in_row, touches};
 use pg_values::{KeyKind, Steps};
 use std::sync::ledger::Ledger;
+
+/// A comparison that gives a chain.
+#[derive(Clone, Copy, Debug, PartialEq, Eq)]
+pub(crate) enum ChainOp {
+    Eq,
+    Lt,
+    Le,
+    Gt,
+    Ge,
+}
+
+/// The chain of a comparison; an unequal one gives none.
+pub(crate) fn chain_op(op: CompareOp) -> Option<ChainOp>
+    ensures { result ≡ runs.chain_op op }
+{
+    match op {
+        CompareOp::Eq => Some(ChainOp::Eq),
+        CompareOp::Ne => None,
+        CompareOp::Lt => Some(ChainOp::Lt),
+        CompareOp::Le => Some(ChainOp::Le),
+        CompareOp::Gt => Some(ChainOp::Gt),
+        CompareOp::Ge => Some(ChainOp::Ge),
+    }
+}
 
 fn start_of(op: ChainOp, j: usize) -> (usize, Fill)
     requires { 0 < j }

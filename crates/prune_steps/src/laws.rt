@@ -1,4 +1,4 @@
-ghost use Rattle.prune_steps.specs.Laws.{PruningIsSound, KeepsByConjuncts, GivesByConjuncts};
+ghost use Rattle.prune_steps.specs.Laws.{PruningIsSound, KeepsByConjuncts, GivesByConjuncts, PushingKeepsAlike};
 
 /// A row that passes the condition lies in a kept child: where a child of the level accepts it, that
 /// child is kept.
@@ -11,4 +11,9 @@ pub fn pruning_is_sound()
 pub fn parts_are_conjuncts()
     ensures keeps { KeepsByConjuncts }
     ensures gives { GivesByConjuncts }
+{}
+
+/// A condition keeps the same with NOT pushed inwards, whatever is known.
+pub fn pushing_keeps_alike()
+    ensures { PushingKeepsAlike }
 {}

@@ -28,7 +28,7 @@ use Rattle.plan_tree.specs.JoinKinds.{join_kind}
 use Rattle.plan_tree.specs.declared.join_kind.JoinKind.{JoinKind}
 use Rattle.plan_tree.specs.declared.join_kind.JoinKind.TheVariants.{NestedLoop, HashJoin}
 use Rattle.plan_tree.specs.Parts.{in_partition, partitions}
-use Rattle.plan_tree.specs.Plans.{PlannedItem, Planned, Pair, both as items_of, both_keep, behind, paired as paired_items, unpaired, scanned_items, over_partition, pair_at, pairs_of, pairs_over, is_partitionwise, started_pair, asks_again, keeps_first, keeps_beside, is_empty, item_for, items_from, kept_beside, leaves_for, plan_for, pruned_at_start, started_item, started, plan_by}
+use Rattle.plan_tree.specs.Plans.{PlannedItem, Planned, Pair, both as items_of, both_keep, behind, paired as paired_items, unpaired, scanned_items, over_partition, pair_at, pairs_of, pairs_over, is_partitionwise, started_pair, asks_again, keeps_first, keeps_beside, is_empty, item_for, items_from, kept_beside, leaves_for, plan_for, pruned_at_start, starts, started_item, started, plan_by}
 use Rattle.plan_tree.specs.declared.planning.Planning.{Planning}
 use Rattle.select_answer.specs.Tuples.{Tuple, Mark, Reads, Gives, no_tuple, passes, tuples_in, scan_marks, beside_marks, first_marks, read_first, for_each, joined, pair_marks, all_joined, tuples_of, reads_in}
 use Rattle.select_answer.specs.Laws.{plan_reads}
@@ -124,7 +124,7 @@ item_planned how n cs tree =
     record { kept = kept_first how.prunes kind n cs tree; once = hashed_once how.prunes kind n cs }
 
 started_planned : (args : List Value) (i : PlannedItem) → IsPlanned i → IsPlanned (started_item args i)
-started_planned args i its = by i.is_asked_at_start
+started_planned args i its = by (starts i)
   where
     by : (b : Bool) → IsPlanned (if b then pruned_at_start args i else i)
     by true = record { kept = λ is. refl; once = its.once }

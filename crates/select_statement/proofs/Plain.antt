@@ -24,7 +24,7 @@ use Rattle.lock_table.specs.Asked.{AskedView, AtOnce, WaitsBehind, ClosesCycle, 
 use Rattle.sql_binder.specs.Selects.{from_of}
 use Rattle.cond_logic.specs.Asked.{SelectMeant}
 use Rattle.plan_tree.specs.Conjuncts.{pool, lies_within, asked_at, asked_later}
-use Rattle.plan_tree.specs.Plans.{Planned, PlannedItem, keeps_first, is_joined, asks_again, is_none, item_for, plan_for, plan_tables, kept_at_start, pruned_at_start, started_item, started, plan_by}
+use Rattle.plan_tree.specs.Plans.{Planned, PlannedItem, keeps_first, is_joined, asks_again, is_none, item_for, plan_for, plan_tables, kept_at_start, pruned_at_start, starts, started_item, started, plan_by}
 use Rattle.plan_tree.specs.JoinKinds.{join_kind}
 use Rattle.plan_tree.specs.declared.join_kind.JoinKind.{JoinKind}
 use Rattle.plan_tree.specs.declared.join_kind.JoinKind.TheVariants.{NestedLoop, HashJoin}
@@ -105,7 +105,7 @@ one_made : (how : Planning) (cs : List CondTree) (tree : TableTree) → IsOne tr
 one_made how cs tree = record { once = not_again how.prunes (join_kind how.hashes 0 (asked_at 0 cs)) cs; few = kept_few (keeps_first how.prunes 0 (asked_at 0 cs)) tree }
 
 one_started : (args : List Value) (i : PlannedItem) → IsOne i.tree i → IsOne i.tree (started_item args i)
-one_started args i one = by i.is_asked_at_start
+one_started args i one = by (starts i)
   where
     by : (b : Bool) → IsOne i.tree (if b then pruned_at_start args i else i)
     by true = record { once = one.once; few = kept_few (keeps_for true i.number (kept_at_start args i)) i.tree }

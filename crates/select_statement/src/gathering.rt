@@ -141,19 +141,14 @@ pub(crate) fn gather_bare(
 // ---- the plan
 
 // A generic plan is started.
-fn start_by<'t>(
-    alloc: Global,
-    how: Planning,
-    args: &[Value],
-    plan: Plan<'t>,
-) -> Result<Plan<'t>, NoMemory>
+fn start_by<'t>(alloc: Global, how: Planning, args: &'t [Value], plan: Plan<'t>) -> Plan<'t>
     requires { All (λ i. CanPrune i.tree) (all_items (planned plan)) }
-    ensures { IfOk result (λ p. planned p ≡ started_by how args.now (planned plan.entry)) }
+    ensures { planned result ≡ started_by how args.now (planned plan.entry) }
 {
     if how.is_generic {
         plan.start(alloc, args)
     } else {
-        Ok(plan)
+        plan
     }
 }
 
@@ -162,7 +157,7 @@ pub(crate) fn plan_under<'t>(
     attempt: &Attempt<'_>,
     stores: &mut Stores,
     how: Planning,
-    args: &[Value],
+    args: &'t [Value],
     found: &'t Gathered,
 ) -> Result<Plan<'t>, Stop>
     requires may { MayAttempt stores.old attempt.now.caller }
@@ -177,6 +172,6 @@ pub(crate) fn plan_under<'t>(
     let plan = make_plan(attempt.alloc, how, conditions, found.trees.as_slice())?;
     let tables = plan.tables(attempt.alloc)?;
     lock_below(attempt, stores, &tables)?;
-    let started = start_by(attempt.alloc, how, args, plan)?;
+    let started = start_by(attempt.alloc, how, args, plan);
     Ok(started)
 }

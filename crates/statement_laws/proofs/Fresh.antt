@@ -17,7 +17,7 @@ use Rattle.cond_logic.specs.Trees.{CondTree}
 use Rattle.plan_tree.specs.Conjuncts.{pool, asked_at, asked_later}
 use Rattle.plan_tree.specs.Kept.{id_of, keeps_for}
 use Rattle.plan_tree.specs.Parts.{in_partition, partitions}
-use Rattle.plan_tree.specs.Plans.{PlannedItem, Planned, Pair, behind, both, both_keep, is_partitionwise, over_partition, pair_at, paired, pairs_of, pairs_over, scanned_items, started_pair, unpaired, keeps_first, is_empty, items_from, plan_for, kept_at_start, pruned_at_start, started_item, started, plan_by}
+use Rattle.plan_tree.specs.Plans.{PlannedItem, Planned, Pair, behind, both, both_keep, is_partitionwise, over_partition, pair_at, paired, pairs_of, pairs_over, scanned_items, started_pair, unpaired, keeps_first, is_empty, items_from, plan_for, kept_at_start, pruned_at_start, starts, started_item, started, plan_by}
 use Rattle.plan_tree.specs.declared.planning.Planning.{Planning}
 use Rattle.plan_tree.proofs.Partitions.{partition_within}
 use Rattle.select_answer.proofs.Kept.{leaves_kept}
@@ -60,7 +60,7 @@ module _ (h : History) (session : ℕ) (s : TakenSnapshot) (fresh : TreesAreFres
       )
 
   started_of : (args : List Value) (i : PlannedItem) → OfItem i → OfItem (started_item args i)
-  started_of args i its = by i.is_asked_at_start
+  started_of args i its = by (starts i)
     where
       by : (b : Bool) → OfItem (if b then pruned_at_start args i else i)
       by true = record { whole = its.whole; kept = leaves_kept IsShown (keeps_for true i.number (kept_at_start args i)) i.tree its.whole }

@@ -1,6 +1,6 @@
 use Rattle.std.proofs.Common.{◌≡◌, ◌∙◌, arith, ap}
 use Rattle.cond_logic.specs.Trees.{cond_tree, inverted}
-use Rattle.prune_steps.proofs.MakeParts.{not_is}
+use Rattle.prune_steps.proofs.CondTrees.{not_is}
 use Rattle.plan_tree.proofs.Weights.{part_less, not_less}
 use Rattle.plan_tree.proofs.parameters.+opening.Goals as goal
 
