@@ -24,5 +24,6 @@ pub mod PlanReads
 pub mod PlanTuples
 pub mod Pruned
 pub mod ReadLeaves
+pub mod RowByRow
 pub mod SortedParts
 pub mod Total
