@@ -1,20 +1,19 @@
 //! A row that a transaction which the snapshot does not see has changed or moved: 40001.
 
-ghost use Rattle.std.specs.Prelude.{◌≡◌, ◌<◌, [], IfOk, length, unwrap_or};
+ghost use Rattle.std.specs.Prelude.{◌≡◌, ◌<◌, IfOk, length};
 ghost use Rattle.history.specs.History.{History};
 ghost use Rattle.part_catalog.specs.Stands.{CatalogueStands};
 ghost use Rattle.row_change.specs.Ways.{root, way_to, AllTables};
 ghost use Rattle.row_router.specs.Seen.{seen};
-ghost use Rattle.statement_steps.specs.Faults as faults;
 ghost use Rattle.row_change.specs.Targets as targets;
 ghost use Rattle.change_statement.specs.Changed as changed;
 
 use crate::{Conflict, could_not_serialize};
 use part_catalog::Catalog;
-use pg_values::{Fault, LeafId, NoMemory, PgText, TableNo};
+use pg_values::{Fault, LeafId, NoMemory, TableNo};
 use row_change::leaf_way;
 use row_router::Tree;
-use statement_steps::Attempt;
+use statement_steps::{Attempt, session_name};
 use std::alloc::Global;
 
 fn last_or(first: TableNo, way: &[TableNo]) -> TableNo
@@ -40,15 +39,6 @@ fn holder(alloc: Global, tree: &Tree, leaf: LeafId) -> Result<TableNo, NoMemory>
     match leaf_way(alloc, tree, leaf)? {
         Some(way) => Ok(last_or(root_of(tree), &way)),
         None => Ok(root_of(tree)),
-    }
-}
-
-fn session_name(attempt: &Attempt<'_>, session: u32) -> Result<PgText, NoMemory>
-    ensures { IfOk result (λ name. name ≡ faults.name_of attempt.now.names.now session) }
-{
-    match attempt.names.as_slice().get(session as usize) {
-        Some(name) => name.copy(attempt.alloc),
-        None => PgText::new(attempt.alloc),
     }
 }
 

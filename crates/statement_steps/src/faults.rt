@@ -7,7 +7,8 @@ use crate::Attempt;
 use pg_values::{Args, Fault, NoMemory, PgText, SessionList};
 use refusals::deadlock;
 
-fn name_of(attempt: &Attempt<'_>, session: u32) -> Result<PgText, NoMemory>
+/// The name of a session by its number.
+pub fn session_name(attempt: &Attempt<'_>, session: u32) -> Result<PgText, NoMemory>
     ensures { IfOk result (λ t. t ≡ faults.name_of attempt.now.names.now session) }
 {
     match attempt.names.as_slice().get(session as usize) {
@@ -22,7 +23,7 @@ fn names_of(attempt: &Attempt<'_>, cycle: SessionList) -> Result<Args, NoMemory>
     let mut args = Args::new(attempt.alloc);
     for place in 0..65 {
         match cycle.at(place) {
-            Some(session) => args.push(name_of(attempt, session)?)?,
+            Some(session) => args.push(session_name(attempt, session)?)?,
             None => return Ok(args),
         }
     }

@@ -30,6 +30,7 @@ pub use attempt::Attempt;
 pub use below::tables_below;
 pub use caller::Caller;
 pub use ending::{Ending, ended};
+pub use faults::session_name;
 pub use gathered::Gathered;
 pub use going_on::stopped_on;
 pub use holding::{hold, hold_if_repeatable};
