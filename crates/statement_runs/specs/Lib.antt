@@ -9,6 +9,7 @@ pub mod Kept
 pub mod LeftOut
 pub mod Moments
 pub mod Names
+pub mod OtherCommands
 pub mod Printed
 pub mod Ran
 pub mod ReadMoments

@@ -1,5 +1,5 @@
-ghost use Rattle.std.specs.Prelude.{◌≡◌, List, Option, Result};
-ghost use Rattle.sql_ast.specs.Commands.{attaches, bound_tree, command_tree, detaches};
+ghost use Rattle.std.specs.Prelude.{◌≡◌, ℕ, List, Option, Result};
+ghost use Rattle.sql_ast.specs.Commands.{attaches, bound_tree, command_tree, detaches, drops, locks, makes_partition, makes_table};
 ghost use Rattle.sql_ast.specs.Queries.{query_tree};
 ghost use Rattle.sql_ast.specs.Statements.{statement_tree};
 ghost use Rattle.prepared_statements.specs.Kept.{listed};
@@ -10,6 +10,7 @@ ghost use Rattle.statement_steps.specs.Ended.{ended};
 ghost use Rattle.statement_runs.specs.Attempted as attempted;
 ghost use Rattle.statement_runs.specs.Executions as executions;
 ghost use Rattle.statement_runs.specs.Given as given;
+ghost use Rattle.statement_runs.specs.OtherCommands.{AltersNoTable, MakesNoTable};
 ghost use Rattle.statement_runs.specs.Printed.{IsKept, IsStatement, IsTallied};
 
 use crate::Options;
@@ -21,12 +22,15 @@ use crate::prepared_attempts::{
 use crate::room::check_room;
 use crate::row_attempts::{attempt_explain, attempt_rows, is_trailed};
 use alter_table::{attach, detach, detach_concurrently, finalize};
-use pg_values::PgText;
+use pg_values::{LockMode, PgText};
 use plan_tree::Planning;
 use prepared_statements::PreparedList;
 use schedule::Tally;
 use sessions::{PlanCacheMode, Settings};
-use sql_ast::{BoundText, Command, Detachment, Query, Statement};
+use sql_ast::{
+    BoundText, ColumnList, Command, Detachment, LockedTableList, NameList, Partitioning, Query,
+    Statement,
+};
 use statement_steps::{Attempt, Caller, Ending, Rest, Stop, ended};
 use std::alloc::Global;
 use stores::Stores;
@@ -38,10 +42,9 @@ fn attempt_attach(
     parent: &PgText,
     name: &PgText,
     bound: &BoundText,
-    out: &[u8],
 ) -> Result<Ending, Stop>
     requires { MayAttempt stores.old attempt.now.caller }
-    ensures { (rest : Option OneRest) (ps : List Prepared) → IsStatement rest result stores.old stores.new out.now out.now attempt.now.caller (attempted.command_attempted attempt.now.names.now attempt.now.caller rest ps (attaches parent.now name.now (bound_tree bound.now))) }
+    ensures { (rest : Option OneRest) (ps : List Prepared) (out : List ℕ) → IsStatement rest result stores.old stores.new out out attempt.now.caller (attempted.command_attempted attempt.now.names.now attempt.now.caller rest ps (attaches parent.now name.now (bound_tree bound.now))) }
 {
     check_room(stores, attempt.caller);
     let above = parent.as_bytes();
@@ -56,10 +59,9 @@ fn attempt_detach(
     parent: &PgText,
     name: &PgText,
     how: &Detachment,
-    out: &[u8],
 ) -> Result<Ending, Stop>
     requires { MayAttempt stores.old attempt.now.caller }
-    ensures { (ps : List Prepared) → IsStatement rest result stores.old stores.new out.now out.now attempt.now.caller (attempted.command_attempted attempt.now.names.now attempt.now.caller rest ps (detaches parent.now name.now how.now)) }
+    ensures { (ps : List Prepared) (out : List ℕ) → IsStatement rest result stores.old stores.new out out attempt.now.caller (attempted.command_attempted attempt.now.names.now attempt.now.caller rest ps (detaches parent.now name.now how.now)) }
 {
     check_room(stores, attempt.caller);
     let above = parent.as_bytes();
@@ -71,46 +73,127 @@ fn attempt_detach(
     }
 }
 
+fn attempt_create_table(
+    attempt: &Attempt<'_>,
+    stores: &mut Stores,
+    name: &PgText,
+    columns: &ColumnList,
+    by: &Option<Partitioning>,
+) -> Result<Ending, Stop>
+    requires { MayAttempt stores.old attempt.now.caller }
+    ensures { (rest : Option OneRest) (ps : List Prepared) (out : List ℕ) → IsStatement rest result stores.old stores.new out out attempt.now.caller (attempted.command_attempted attempt.now.names.now attempt.now.caller rest ps (makes_table name.now columns.now by.now)) }
+{
+    ended(create_table(attempt, stores, name, columns, by))
+}
+
+fn attempt_create_partition(
+    attempt: &Attempt<'_>,
+    stores: &mut Stores,
+    name: &PgText,
+    parent: &PgText,
+    bound: &BoundText,
+    by: &Option<Partitioning>,
+) -> Result<Ending, Stop>
+    requires { MayAttempt stores.old attempt.now.caller }
+    ensures { (rest : Option OneRest) (ps : List Prepared) (out : List ℕ) → IsStatement rest result stores.old stores.new out out attempt.now.caller (attempted.command_attempted attempt.now.names.now attempt.now.caller rest ps (makes_partition name.now parent.now (bound_tree bound.now) by.now)) }
+{
+    check_room(stores, attempt.caller);
+    ended(create_partition(attempt, stores, name, parent, bound, by))
+}
+
+fn attempt_drop(
+    attempt: &Attempt<'_>,
+    stores: &mut Stores,
+    if_there: bool,
+    tables: &NameList,
+) -> Result<Ending, Stop>
+    requires { MayAttempt stores.old attempt.now.caller }
+    ensures { (rest : Option OneRest) (ps : List Prepared) (out : List ℕ) → IsStatement rest result stores.old stores.new out out attempt.now.caller (attempted.command_attempted attempt.now.names.now attempt.now.caller rest ps (drops if_there tables.now)) }
+{
+    check_room(stores, attempt.caller);
+    ended(drop_tables(attempt, stores, if_there, tables.as_slice()))
+}
+
+fn attempt_lock(
+    attempt: &Attempt<'_>,
+    stores: &mut Stores,
+    tables: &LockedTableList,
+    mode: LockMode,
+) -> Result<Ending, Stop>
+    requires { MayAttempt stores.old attempt.now.caller }
+    ensures { (rest : Option OneRest) (ps : List Prepared) (out : List ℕ) → IsStatement rest result stores.old stores.new out out attempt.now.caller (attempted.command_attempted attempt.now.names.now attempt.now.caller rest ps (locks tables.now mode)) }
+{
+    check_room(stores, attempt.caller);
+    ended(lock(attempt, stores, tables.as_slice(), mode))
+}
+
+// LOCK and DEALLOCATE. What has no case is left out.
+fn attempt_other(
+    attempt: &Attempt<'_>,
+    stores: &mut Stores,
+    prepared: &mut PreparedList,
+    command: &Command,
+) -> Result<Ending, Stop>
+    requires may { MayAttempt stores.old attempt.now.caller }
+    requires made { MakesNoTable command.now }
+    requires altered { AltersNoTable command.now }
+    ensures is { (rest : Option OneRest) (out : List ℕ) → IsStatement rest result stores.old stores.new out out attempt.now.caller (attempted.command_attempted attempt.now.names.now attempt.now.caller rest (listed prepared.old) (command_tree command.now)) }
+    ensures kept { IsKept result (listed prepared.old) (listed prepared.new) (executions.command_kept (listed prepared.old) (command_tree command.now)) }
+{
+    match command {
+        Command::Lock(tables, mode) => attempt_lock(attempt, stores, tables, *mode),
+        Command::Deallocate(name) => ended(attempt_deallocate(attempt, stores, prepared, name)),
+        Command::DeallocateAll => ended(attempt_deallocate_all(attempt, stores, prepared)),
+        _ => ended(omit(attempt, stores, command_word(command))),
+    }
+}
+
+// ALTER TABLE, and what is none.
+fn attempt_alter(
+    attempt: &Attempt<'_>,
+    stores: &mut Stores,
+    rest: Option<Rest>,
+    prepared: &mut PreparedList,
+    command: &Command,
+) -> Result<Ending, Stop>
+    requires may { MayAttempt stores.old attempt.now.caller }
+    requires made { MakesNoTable command.now }
+    ensures is { (out : List ℕ) → IsStatement rest result stores.old stores.new out out attempt.now.caller (attempted.command_attempted attempt.now.names.now attempt.now.caller rest (listed prepared.old) (command_tree command.now)) }
+    ensures kept { IsKept result (listed prepared.old) (listed prepared.new) (executions.command_kept (listed prepared.old) (command_tree command.now)) }
+{
+    match command {
+        Command::Attach(parent, name, bound) => {
+            attempt_attach(attempt, stores, parent, name, bound)
+        }
+        Command::Detach(parent, name, how) => {
+            attempt_detach(attempt, stores, rest, parent, name, how)
+        }
+        _ => attempt_other(attempt, stores, prepared, command),
+    }
+}
+
 fn attempt_command(
     attempt: &Attempt<'_>,
     stores: &mut Stores,
     rest: Option<Rest>,
     prepared: &mut PreparedList,
     command: &Command,
-    out: &[u8],
 ) -> Result<Ending, Stop>
     requires { MayAttempt stores.old attempt.now.caller }
-    ensures is { IsStatement rest result stores.old stores.new out.now out.now attempt.now.caller (attempted.command_attempted attempt.now.names.now attempt.now.caller rest (listed prepared.old) (command_tree command.now)) }
+    ensures is { (out : List ℕ) → IsStatement rest result stores.old stores.new out out attempt.now.caller (attempted.command_attempted attempt.now.names.now attempt.now.caller rest (listed prepared.old) (command_tree command.now)) }
     ensures kept { IsKept result (listed prepared.old) (listed prepared.new) (executions.command_kept (listed prepared.old) (command_tree command.now)) }
 {
-    check_room(stores, attempt.caller);
     match command {
-        Command::CreateTable(name, columns, by) => ended(create_table(
-            attempt, stores, name, columns, by,
-        )),
-        Command::CreatePartition(name, parent, bound, by) => ended(create_partition(
-            attempt, stores, name, parent, bound, by,
-        )),
+        Command::CreateTable(name, columns, by) => {
+            attempt_create_table(attempt, stores, name, columns, by)
+        }
+        Command::CreatePartition(name, parent, bound, by) => {
+            attempt_create_partition(attempt, stores, name, parent, bound, by)
+        }
         Command::DropTables(if_there, tables) => {
-            let tables = tables.as_slice();
-            ended(drop_tables(attempt, stores, *if_there, tables))
+            attempt_drop(attempt, stores, *if_there, tables)
         }
-        Command::Attach(parent, name, bound) => {
-            attempt_attach(attempt, stores, parent, name, bound, out)
-        }
-        Command::Detach(parent, name, how) => {
-            attempt_detach(attempt, stores, rest, parent, name, how, out)
-        }
-        Command::Lock(tables, mode) => {
-            let tables = tables.as_slice();
-            ended(lock(attempt, stores, tables, *mode))
-        }
-        Command::Deallocate(name) => {
-            let name = name.as_bytes();
-            ended(attempt_deallocate(attempt, stores, prepared, name))
-        }
-        Command::DeallocateAll => ended(attempt_deallocate_all(attempt, stores, prepared)),
-        _ => ended(omit(attempt, stores, command_word(command), out)),
+        _ => attempt_alter(attempt, stores, rest, prepared, command),
     }
 }
 
@@ -194,7 +277,7 @@ pub(crate) fn attempt(
     };
     match statement {
         Statement::Command(command) => {
-            attempt_command(&attempt, stores, rest, prepared, command, out)
+            attempt_command(&attempt, stores, rest, prepared, command)
         }
         Statement::Query(query) => {
             let how = planning_of(settings);

@@ -1,4 +1,4 @@
-ghost use Rattle.std.specs.Prelude.{◌≡◌, Option};
+ghost use Rattle.std.specs.Prelude.{◌≡◌, ℕ, List, Option};
 ghost use Rattle.sql_ast.specs.Commands.{command_tree};
 ghost use Rattle.statement_steps.specs.Attempts.{MayAttempt};
 ghost use Rattle.statement_steps.specs.Ended.{ended};
@@ -34,14 +34,9 @@ pub(crate) fn command_word(command: &Command) -> &'static [u8]
 }
 
 // It is refused, and told by that word.
-pub(crate) fn omit(
-    attempt: &Attempt<'_>,
-    stores: &Stores,
-    word: &[u8],
-    out: &[u8],
-) -> Result<(), Stop>
+pub(crate) fn omit(attempt: &Attempt<'_>, stores: &Stores, word: &[u8]) -> Result<(), Stop>
     requires { MayAttempt stores.now attempt.now.caller }
-    ensures { (left : Option Left) → IsStatement left (ended result) stores.now stores.now out.now out.now attempt.now.caller (attempted.omitted word.now) }
+    ensures { (left : Option Left) (out : List ℕ) → IsStatement left (ended result) stores.now stores.now out out attempt.now.caller (attempted.omitted word.now) }
 {
     match left_out(attempt.alloc, word) {
         Ok(fault) => Err(Stop::Refused(fault)),

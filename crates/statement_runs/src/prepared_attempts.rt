@@ -69,14 +69,14 @@ pub(crate) fn attempt_deallocate(
     attempt: &Attempt<'_>,
     stores: &mut Stores,
     prepared: &mut PreparedList,
-    name: &[u8],
+    name: &PgText,
 ) -> Result<(), Stop>
     requires { MayAttempt stores.old attempt.now.caller }
     ensures is { IsStep (λ u. u) result stores.old stores.new attempt.now.caller (attempt.now.caller.cmd + 1) (attempted.listing attempt.now.caller (deallocated (listed prepared.old) name.now)) }
     ensures kept { IsKept (ended result) (listed prepared.old) (listed prepared.new) (executions.listed_after (listed prepared.old) (deallocated (listed prepared.old) name.now)) }
 {
     hold_if_repeatable(attempt, stores)?;
-    let done = prepared.deallocate(attempt.alloc, name);
+    let done = prepared.deallocate(attempt.alloc, name.as_bytes());
     list(stores, attempt.caller, done)
 }
 
@@ -159,9 +159,9 @@ fn plan_execution(
         RowStatement::Select(s) => {
             attempt_explain(attempt, stores, params, how, analyze, s, out)
         }
-        RowStatement::Insert(_) => omit(attempt, stores, b"INSERT", out),
-        RowStatement::Update(_) => omit(attempt, stores, b"UPDATE", out),
-        RowStatement::Delete(_) => omit(attempt, stores, b"DELETE", out),
+        RowStatement::Insert(_) => omit(attempt, stores, b"INSERT"),
+        RowStatement::Update(_) => omit(attempt, stores, b"UPDATE"),
+        RowStatement::Delete(_) => omit(attempt, stores, b"DELETE"),
     }
 }
 

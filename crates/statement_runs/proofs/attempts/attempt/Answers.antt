@@ -1,14 +1,13 @@
-use Rattle.std.proofs.Common.{ℕ, Bool, List, Result, sym, subst, ◌&&◌}
+use Rattle.std.proofs.Common.{Bool, Result, sym, subst, ◌&&◌}
 use Rattle.sql_ast.specs.Statements.{statement_tree}
 use Rattle.sql_ast.specs.declared.statement.Statement.{Statement}
-use Rattle.sql_ast.specs.Commands.{command_tree}
 use Rattle.sql_ast.specs.Queries.{query_tree}
 use Rattle.statement_steps.specs.Ended.{ended}
 use Rattle.statement_steps.specs.declared.ending.Ending.{Ending}
 use Rattle.statement_steps.specs.declared.stop.Stop.{Stop}
 use Rattle.prepared_statements.specs.Kept.{listed}
 use Rattle.plan_tree.specs.declared.planning.Planning.{Planning}
-use Rattle.statement_runs.specs.Attempted.{attempted, command_attempted, is_step, planning_of, query_attempted}
+use Rattle.statement_runs.specs.Attempted.{attempted, is_step, planning_of, query_attempted}
 use Rattle.statement_runs.specs.Given.{query_given, statement_given}
 use Rattle.statement_runs.specs.Executions.{kept, query_kept}
 use Rattle.statement_runs.specs.Printed.{IsKept, IsStatement}
@@ -43,7 +42,7 @@ unfolding attempted
 returns-in-Command-clause-is c =
     let o = c.args.options.now in
     subst (λ (x : Statement). IsStatement c.args.rest c.attempt_command.result c.args.stores.now c.attempt_command.new.stores c.args.out.now.items c.args.out.now.items c.args.caller (attempted o c.args.caller c.args.rest c.args.settings (listed c.args.prepared.now) (statement_tree x))) (sym c.in-Command.is)
-    (subst (λ (x : List ℕ). IsStatement c.args.rest c.attempt_command.result c.args.stores.now c.attempt_command.new.stores x x c.args.caller (command_attempted c.args.options.now.names c.args.caller c.args.rest (listed c.args.prepared.now) (command_tree c.in-Command.command))) c.deref.ensures.value c.attempt_command.ensures.is)
+    (c.attempt_command.ensures.is c.args.out.now.items)
 
 pub returns-in-Command-clause-tally : goal.returns-in-Command-clause-tally
 unfolding statement_given

@@ -1,3 +1,5 @@
+use Rattle.std.proofs.Common.{List, ℕ, subst}
+use Rattle.expression_binder.specs.Firsts.{IsAnswerBy}
 use Rattle.prepared_statements.specs.Prepared.{deallocated}
 use Rattle.prepared_statements.specs.Kept.{listed}
 use Rattle.statement_steps.specs.Asks.{held_at}
@@ -19,9 +21,11 @@ returns-in_err-hold_if_repeatable-clause-kept c = kept_out _ _ (listed c.args.pr
 
 pub returns-clause-is : goal.returns-clause-is
 returns-clause-is c =
+    let answer = subst (λ (n : List ℕ). IsAnswerBy (λ (u : Unit {0}). listed c.deallocate-done.new.self) c.deallocate-done.result (deallocated (listed c.args.prepared.now) n)) c.as_bytes.ensures c.deallocate-done.ensures.answer in
     goes (held_at c.args.attempt.now.caller.level c.args.attempt.now.caller.session c.args.attempt.now.caller.cmd) (λ (u : Unit {0}). taken (deallocated (listed c.args.prepared.now) c.args.name.now)) c.in_ok-hold_if_repeatable.ensures.step
-    (c.list.ensures.is (listed c.deallocate-done.new.self) (deallocated (listed c.args.prepared.now) c.args.name.now) c.deallocate-done.ensures.answer)
+    (c.list.ensures.is (listed c.deallocate-done.new.self) (deallocated (listed c.args.prepared.now) c.args.name.now) answer)
 
 pub returns-clause-kept : goal.returns-clause-kept
 returns-clause-kept c =
-    c.list.ensures.kept (listed c.args.prepared.now) (listed c.deallocate-done.new.self) (deallocated (listed c.args.prepared.now) c.args.name.now) c.deallocate-done.ensures.answer c.deallocate-done.ensures.kept
+    let answer = subst (λ (n : List ℕ). IsAnswerBy (λ (u : Unit {0}). listed c.deallocate-done.new.self) c.deallocate-done.result (deallocated (listed c.args.prepared.now) n)) c.as_bytes.ensures c.deallocate-done.ensures.answer in
+    c.list.ensures.kept (listed c.args.prepared.now) (listed c.deallocate-done.new.self) (deallocated (listed c.args.prepared.now) c.args.name.now) answer c.deallocate-done.ensures.kept

@@ -1,8 +1,8 @@
-use Rattle.std.proofs.Common.{ℕ, List, codes, sym, subst}
+use Rattle.std.proofs.Common.{sym, subst}
 use Rattle.sql_ast.specs.Queries.{row_tree}
 use Rattle.sql_ast.specs.declared.query.RowStatement.{RowStatement}
 use Rattle.statement_steps.specs.Ended.{ended}
-use Rattle.statement_runs.specs.Attempted.{omitted, plan_of_execution}
+use Rattle.statement_runs.specs.Attempted.{plan_of_execution}
 use Rattle.statement_runs.specs.Printed.{IsStatement}
 use Rattle.statement_runs.proofs.prepared_attempts.plan_execution.Goals as goal
 
@@ -16,18 +16,18 @@ returns-in-Insert c left =
     let s = c.args.stores.now in
     let out = c.args.out.now.items in
     subst (λ (x : RowStatement). IsStatement left (ended c.omit.result) s s out out c.args.attempt.now.caller (plan_of_execution c.args.how c.args.attempt.now.names.now c.args.params.now c.args.attempt.now.caller c.args.analyze (row_tree x))) (sym c.in-Insert.is)
-    (subst (λ (o : List ℕ). IsStatement left (ended c.omit.result) s s o o c.args.attempt.now.caller (omitted (codes "INSERT"))) c.deref.ensures.value (c.omit.ensures left))
+    (c.omit.ensures left out)
 
 pub returns-in-Update : goal.returns-in-Update
 returns-in-Update c left =
     let s = c.args.stores.now in
     let out = c.args.out.now.items in
     subst (λ (x : RowStatement). IsStatement left (ended c.omit-in-Update.result) s s out out c.args.attempt.now.caller (plan_of_execution c.args.how c.args.attempt.now.names.now c.args.params.now c.args.attempt.now.caller c.args.analyze (row_tree x))) (sym c.in-Update.is)
-    (subst (λ (o : List ℕ). IsStatement left (ended c.omit-in-Update.result) s s o o c.args.attempt.now.caller (omitted (codes "UPDATE"))) c.deref-in-Update.ensures.value (c.omit-in-Update.ensures left))
+    (c.omit-in-Update.ensures left out)
 
 pub returns-in-Delete : goal.returns-in-Delete
 returns-in-Delete c left =
     let s = c.args.stores.now in
     let out = c.args.out.now.items in
     subst (λ (x : RowStatement). IsStatement left (ended c.omit-in-Delete.result) s s out out c.args.attempt.now.caller (plan_of_execution c.args.how c.args.attempt.now.names.now c.args.params.now c.args.attempt.now.caller c.args.analyze (row_tree x))) (sym c.in-Delete.is)
-    (subst (λ (o : List ℕ). IsStatement left (ended c.omit-in-Delete.result) s s o o c.args.attempt.now.caller (omitted (codes "DELETE"))) c.deref-in-Delete.ensures.value (c.omit-in-Delete.ensures left))
+    (c.omit-in-Delete.ensures left out)
