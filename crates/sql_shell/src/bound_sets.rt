@@ -86,6 +86,9 @@ pub(crate) fn take_bound(
     }
 }
 
+// The first number that is a key. All keys have five digits, so that as texts they stand in the same order.
+const FIRST: u64 = 10_000;
+
 /// Adds ranges, each with one key, every second one.
 pub(crate) fn add_ranges(
     alloc: Global,
@@ -97,9 +100,9 @@ pub(crate) fn add_ranges(
     ensures { IfOk result (λ told. All (IsOfLevel level.now) set.new) }
 {
     for k in 0..count as u64 {
-        let lower = 2 * k;
+        let lower = FIRST + 2 * k;
         let upper = lower + 1;
-        let words = format!(in alloc; "FROM {lower} TO {upper}")?;
+        let words = format!(in alloc; "FROM '{lower} TO '{upper}")?;
         take_bound(alloc, level, set, &words)?;
     }
     Ok(())
@@ -152,7 +155,7 @@ pub(crate) fn find_key(
     Ok(())
 }
 
-// The place of the range that has the number, among so many of `add_ranges`.
+// The place of the range that has the key of this number, among so many of `add_ranges`.
 fn own_range(number: u64, ranges: usize) -> Option<usize> {
     let at = (number / 2) as usize;
     if number % 2 == 0 && at < ranges {
@@ -162,7 +165,7 @@ fn own_range(number: u64, ranges: usize) -> Option<usize> {
     }
 }
 
-/// Looks up the keys below `keys`: how many come to their own range or to none, and how many comparisons one takes.
+/// Looks up so many keys: how many come to their own range or to none, and how many comparisons one takes.
 pub(crate) fn search_keys(
     alloc: Global,
     level: &Level,
@@ -177,7 +180,8 @@ pub(crate) fn search_keys(
     let mut fewest = u64::MAX;
     let mut most = 0u64;
     for k in 0..keys as u64 {
-        let words = format!(in alloc; "{k}")?;
+        let number = FIRST + k;
+        let words = format!(in alloc; "{number}")?;
         let Ok(row) = key_of(alloc, level, &words) else {
             return Err(NoMemory);
         };

@@ -6,10 +6,10 @@ ghost use Rattle.bound_forms.specs.Levels.{IsOfLevel};
 use crate::counted_keys::CountedKey;
 use crate::key_conditions::condition;
 use bound_forms::Level;
-use cond_logic::Cond;
+use cond_logic::{Binding, Cond};
 use part_bounds::{BoundSet, len};
 use pg_values::{NoMemory, Steps};
-use prune_steps::{make_steps, run_steps};
+use prune_steps::Pruning;
 use std::alloc::Global;
 use std::marker::Brand;
 use std::sync::ledger::{Blank, Ledger};
@@ -32,7 +32,9 @@ fn kept_by<L: Ledger>(
         return Ok(());
     }
     let mut steps = Steps::<L>::new(blank);
-    let kept = run_steps(&make_steps(alloc, cond, &[], 0, level)?, set, &mut steps);
+    let pruning = Pruning::new(alloc, cond, 0)?;
+    let known = Binding::new(&[]);
+    let kept = pruning.run(level, set, 0, &known, &mut steps);
     let before = out.len();
     for k in 0..len(set) {
         if kept.keeps(k) {

@@ -8,9 +8,10 @@
 //!   sibling, `o2` where it overlaps the sibling at a place, and `i2` where it lies inside that one;
 //! - `? VALUES`: the place of the partition that accepts the key, or `-`;
 //! - `where CONDITION`: the places of the partitions that the condition keeps, or `-`;
-//! - `ranges N`: N ranges FROM (0) TO (1), FROM (2) TO (3) and so on are added, and `search N`: the keys 0, 1 and so
-//!   on are looked up, with how many of N come to their own range or to none, and the fewest and the most comparisons
-//!   of values that one took.
+//! - `ranges N`: N ranges FROM ('10000') TO ('10001'), FROM ('10002') TO ('10003') and so on are added, and `search N`: the
+//!   keys 10000, 10001 and so on are looked up, with how many of N come to their own range or to none, and the fewest and
+//!   the most comparisons of values that one took. Numbers are searched by the leads of points, and such comparisons are not
+//!   among them; texts have none.
 //!
 //! In a bound a number is an integer, `l:5` a bigint, `'x` a string literal, `s:x` a text, `d:0` a day, `t` and `f`
 //! truth values, and `?x` an expression with the fault 0A000 of x. A condition is written behind its parts: `x 3 =`,
