@@ -4,7 +4,7 @@
 const EACH: u64 = 100;
 
 // Fewer versions are not gone through.
-const FEW: usize = 16;
+const FEW: usize = 64;
 
 #[allow(dead_code)]
 enum Value {
